@@ -1,0 +1,2 @@
+pub mod Gate
+pub mod Floor

@@ -1,0 +1,10 @@
+// One cell: the categories over one stretch of words, from the costs of shorter stretches, under offers that the pruning test lets pass.
+mod binaries;
+mod chains;
+
+mod gate;
+mod offers;
+mod whole;
+mod words;
+
+pub use whole::fill;

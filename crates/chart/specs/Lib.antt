@@ -1,0 +1,5 @@
+pub mod Limits
+pub mod Triangle
+pub mod Meaning
+pub mod Facts
+pub mod Bytes

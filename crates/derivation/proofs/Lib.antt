@@ -1,0 +1,4 @@
+pub mod Ladder
+pub mod Laws
+pub mod Pruning
+pub mod Table

@@ -1,0 +1,11 @@
+pub mod Named
+pub mod Grammar
+pub mod Scale
+pub mod Derivation
+pub mod Surrounding
+pub mod Bounds
+pub mod Passing
+pub mod Pruning
+pub mod Kept
+pub mod Table
+pub mod Ladder
