@@ -29,22 +29,22 @@ pub ceiling-past : {Cost : Type 0} (ladder : List Cost) → ceiling-at ladder (l
 ceiling-past [] = refl
 ceiling-past (t ∷ ladder) = ceiling-past ladder
 
-module _ {Cost : Type 0} {s : Scale Cost} {g : Grammar} {entry : Entries Cost} {ws : List ℕ} where
-  -- the memory beyond a round is as it was
-  abbrev pub Beyond : List Cost → List Cost → Type 0
-  Beyond before after = (k : ℕ) → tri (length ws) * g .categories ≤ k → getD after k (s .neutral) ≡ getD before k (s .neutral)
+-- the memory beyond what a round over n words uses is as it was
+abbrev pub Beyond : {Cost : Type 0} → Scale Cost → Grammar → ℕ → List Cost → List Cost → Type 0
+Beyond s g n before after = (k : ℕ) → tri n * g .categories ≤ k → getD after k (s .neutral) ≡ getD before k (s .neutral)
 
-  round-before : {ceiling : Option Cost} {before mid after : List Cost} {chart : Seen} → Beyond before mid → Round s g entry ceiling ws mid chart after → Round s g entry ceiling ws before chart after
+module _ {Cost : Type 0} {s : Scale Cost} {g : Grammar} {entry : Entries Cost} {ws : List ℕ} where
+  round-before : {ceiling : Option Cost} {before mid after : List Cost} {chart : Seen} → Beyond s g (length ws) before mid → Round s g entry ceiling ws mid chart after → Round s g entry ceiling ws before chart after
   round-before beyond r = record { words = r .words; categories = r .categories; passing = r .passing; kept = r .kept; blank = r .blank; rest = λ k past. r .rest k past ∙ beyond k past }
 
-  pub keeps-before : {ceiling : Option Cost} {before mid after : List Cost} {chart : Seen} {kept : ℕ} → Beyond before mid → Keeps s g entry ceiling ws mid chart after kept → Keeps s g entry ceiling ws before chart after kept
+  pub keeps-before : {ceiling : Option Cost} {before mid after : List Cost} {chart : Seen} {kept : ℕ} → Beyond s g (length ws) before mid → Keeps s g entry ceiling ws mid chart after kept → Keeps s g entry ceiling ws before chart after kept
   keeps-before beyond k = record { round = round-before beyond (k .round); held = k .held; count = k .count }
 
-  pub lacks-before : {ceiling : Option Cost} {before mid after : List Cost} {chart : Seen} → Beyond before mid → Lacks s g entry ceiling ws mid chart after → Lacks s g entry ceiling ws before chart after
+  pub lacks-before : {ceiling : Option Cost} {before mid after : List Cost} {chart : Seen} → Beyond s g (length ws) before mid → Lacks s g entry ceiling ws mid chart after → Lacks s g entry ceiling ws before chart after
   lacks-before beyond l = record { round = round-before beyond (l .round); lacking = l .lacking }
 
-  pub lacks-fails : {ladder : List Cost} {j : ℕ} {before after : List Cost} {chart : Seen} → Lacks s g entry (ceiling-at ladder j) ws before chart after → Fails s g entry ladder ws j
-  lacks-fails l d passes = not-both (l .round .passing (g .top) 1 (length ws) d passes) (l .lacking)
+  pub lacks-fails : (ladder : List Cost) (j : ℕ) {ceiling : Option Cost} {before after : List Cost} {chart : Seen} → ceiling-at ladder j ≡ ceiling → Lacks s g entry ceiling ws before chart after → Fails s g entry ladder ws j
+  lacks-fails ladder j is l d passes = not-both (l .round .passing (g .top) 1 (length ws) d (subst (λ (o : Option Cost). Passes s entry o (length ws) d) is passes)) (l .lacking)
 
-  pub failed-more : {ladder : List Cost} (i : ℕ) → ((j : ℕ) → j < i → Fails s g entry ladder ws j) → Fails s g entry ladder ws i → (j : ℕ) → j < i + 1 → Fails s g entry ladder ws j
-  failed-more {ladder} i before here j less = elim (ℕ-discrete j i) [ yes e ↦ subst (λ (n : ℕ). Fails s g entry ladder ws n) (sym e) here | no ne ↦ before j (omega arith) ]
+pub failed-more : {P : ℕ → Type 0} (i : ℕ) → ((j : ℕ) → j < i → P j) → P i → (j : ℕ) → j < i + 1 → P j
+failed-more {P} i before here j less = elim (ℕ-discrete j i) [ yes e ↦ subst P (sym e) here | no ne ↦ before j (omega arith) ]
