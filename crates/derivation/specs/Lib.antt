@@ -7,5 +7,6 @@ pub mod Bounds
 pub mod Passing
 pub mod Pruning
 pub mod Kept
+pub mod Recogniser
 pub mod Table
 pub mod Ladder
