@@ -1,4 +1,5 @@
-// The rounds of a request: the ceilings of a ladder upward, then none, up to the first round that keeps the top over all words.
+// The search for a cheapest tree: rounds up a ladder of ceilings, then the tree out of the last one.
+pub mod best;
 pub mod climb;
 
-pub use climb::Last;
+pub use best::Tree;

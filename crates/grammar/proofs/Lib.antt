@@ -1,0 +1,5 @@
+pub mod Tiles
+pub mod Named
+pub mod Some
+pub mod Fits
+pub mod Tried

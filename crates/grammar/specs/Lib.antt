@@ -1,0 +1,9 @@
+pub mod Places
+pub mod Listed
+pub mod Seen
+pub mod Adding
+pub mod Answers
+pub mod Drafts
+pub mod Trying
+pub mod Moving
+pub mod Taking

@@ -1,0 +1,12 @@
+mod Causes
+mod Cuts
+mod Firsts
+mod LongParts
+mod Onward
+mod Pairing
+mod Parts
+mod Places
+mod Readings
+mod Runs
+mod Says
+mod Written

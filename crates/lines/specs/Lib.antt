@@ -1,0 +1,9 @@
+pub mod Bytes
+pub mod Causes
+pub mod Decimal
+pub mod Form
+pub mod Moves
+pub mod Run
+pub mod Said
+pub mod Shape
+pub mod Tokens

@@ -1,0 +1,3 @@
+pub mod Ladders
+pub mod Promise
+pub mod Runs

@@ -1,0 +1,11 @@
+// The plain record of a session: the words held, the tally of trees handed out, and the number of its grammar.
+ghost use Prim.Native.Nat.{_≤_};
+
+#[derive(Drop)]
+pub struct Session {
+    pub(crate) words: [u16; 40],
+    pub(crate) len: usize,
+    pub(crate) tally: u32,
+    pub(crate) number: u16,
+    ghost few: { len ≤ 40 },
+}
