@@ -31,7 +31,6 @@ module _ {Cost : Type 0} {s : Scale Cost} (lawful : Lawful s) (g : Grammar) (ent
     (same₁ : (A x y : ℕ) → (x ≡ b → y ≡ e → ⊥) → v₁ A x y ≡ v A x y)
     (same : (A x y : ℕ) → (x ≡ b → y ≡ e → ⊥) → v′ A x y ≡ v A x y)
     (inside : 1 ≤ b) (last : b ≤ length ws) where
-
   makes-single : (A : ℕ) (x : Cost) → Single s (g .lexical) ws b e A x → Open s ceiling entry (b - 1) (length ws - e) A x → Made s g (Open s ceiling entry (b - 1) (length ws - e)) ws v b e A x
   makes-single A x one-word fine =
       let ok = Open s ceiling entry (b - 1) (length ws - e) in
@@ -75,18 +74,18 @@ module _ {Cost : Type 0} {s : Scale Cost} (lawful : Lawful s) (g : Grammar) (ent
     elsewhere = same;
     closed = record {
       words = λ k i r at at-word bi ei fine.
-        let here-is : getD ws (b - 1) 0 ≡ r .word = ap (λ (j : ℕ). getD ws j 0) (omega arith) ∙ getD-default ws i 0 (r .word) (at-word .inside) ∙ at-word .is in
-        let src : Single s (g .lexical) ws b e (r .category) (s .price (r .weight)) = record { alone = bi ∙ sym ei; leaf = record { place = k; rule = r; below = at .inside; at = at; word = sym here-is; makes = refl; costs = refl } } in
-        up₂ (r .category) _ (sinks lawful two (r .category) _ (one .made (r .category) _ src fine));
+          let here-is : getD ws (b - 1) 0 ≡ r .word = ap (λ (j : ℕ). getD ws j 0) (omega arith) ∙ getD-default ws i 0 (r .word) (at-word .inside) ∙ at-word .is in
+          let src : Single s (g .lexical) ws b e (r .category) (s .price (r .weight)) = record { alone = bi ∙ sym ei; leaf = record { place = k; rule = r; below = at .inside; at = at; word = sym here-is; makes = refl; costs = refl } } in
+          up₂ (r .category) _ (sinks lawful two (r .category) _ (one .made (r .category) _ src fine));
       chains = λ k r x at is fine. three .closed k r x at is fine;
       binaries = λ k m r x y at low high is-x is-y fine.
-        let off-x : b ≡ b → m ≡ e → ⊥ = λ _ q. omega arith in
-        let off-y : m + 1 ≡ b → e ≡ e → ⊥ = λ q _. omega arith in
-        let at-x : v₁ (r .left) b m ≡ Some x = same₁ (r .left) b m off-x ∙ sym (same (r .left) b m off-x) ∙ is-x in
-        let at-y : v₁ (r .right) (m + 1) e ≡ Some y = same₁ (r .right) (m + 1) e off-y ∙ sym (same (r .right) (m + 1) e off-y) ∙ is-y in
-        let is : joined s (r .weight) (v₁ (r .left) b m) (v₁ (r .right) (m + 1) e) ≡ Some (s .join (s .price (r .weight)) (s .join x y)) = ap (λ o. joined s (r .weight) o (v₁ (r .right) (m + 1) e)) at-x ∙ ap (λ o. joined s (r .weight) (Some x) o) at-y in
-        let src : Pair s (g .binaries) v₁ b e (length (g .binaries)) (r .category) (s .join (s .price (r .weight)) (s .join x y)) = record { place = k; rule = r; below = at .inside; at = at; meet = record { middle = m; low = low; high = high; makes = refl; costs = is } } in
-        up₂ (r .category) _ (two .made (r .category) _ src fine);
+          let off-x : b ≡ b → m ≡ e → ⊥ = λ _ q. omega arith in
+          let off-y : m + 1 ≡ b → e ≡ e → ⊥ = λ q _. omega arith in
+          let at-x : v₁ (r .left) b m ≡ Some x = same₁ (r .left) b m off-x ∙ sym (same (r .left) b m off-x) ∙ is-x in
+          let at-y : v₁ (r .right) (m + 1) e ≡ Some y = same₁ (r .right) (m + 1) e off-y ∙ sym (same (r .right) (m + 1) e off-y) ∙ is-y in
+          let is : joined s (r .weight) (v₁ (r .left) b m) (v₁ (r .right) (m + 1) e) ≡ Some (s .join (s .price (r .weight)) (s .join x y)) = ap (λ o. joined s (r .weight) o (v₁ (r .right) (m + 1) e)) at-x ∙ ap (λ o. joined s (r .weight) (Some x) o) at-y in
+          let src : Pair s (g .binaries) v₁ b e (length (g .binaries)) (r .category) (s .join (s .price (r .weight)) (s .join x y)) = record { place = k; rule = r; below = at .inside; at = at; meet = record { middle = m; low = low; high = high; makes = refl; costs = is } } in
+          up₂ (r .category) _ (two .made (r .category) _ src fine);
     };
     made = λ A x is. makes (three .origin A x is);
   }

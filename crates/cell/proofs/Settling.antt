@@ -70,9 +70,9 @@ module _ {Cost : Type 0} {s : Scale Cost} (lawful : Lawful s) {ok : ℕ → Cost
     under : (A : ℕ) → getD (set done a true) A false ≡ true → Filled (after A) (λ y. Within s y x)
     under A h = subst (λ o. Filled o (λ y. Within s y x)) (sym (kept A h))
         (⊎-elim
-          (λ e. subst (λ k. Filled (col k) (λ y. Within s y x)) (sym e) (subst (λ o. Filled o (λ y. Within s y x)) (sym (picked .2)) (within-refl lawful x)))
-          (λ was. going .front A a x was (picked .1) (picked .2))
-          (split A h))
+        (λ e. subst (λ k. Filled (col k) (λ y. Within s y x)) (sym e) (subst (λ o. Filled o (λ y. Within s y x)) (sym (picked .2)) (within-refl lawful x)))
+        (λ was. going .front A a x was (picked .1) (picked .2))
+        (split A h))
 
     -- what is not done is not below x
     over : (B : ℕ) (y : Cost) → getD (set done a true) B false ≡ false → after B ≡ Some y → Within s x y
@@ -85,23 +85,23 @@ module _ {Cost : Type 0} {s : Scale Cost} (lawful : Lawful s) {ok : ℕ → Cost
     going-more = record {
       front = λ A B y h und is. filled-map (after A) (λ z low. lawful .trans _ _ _ low (over B y und is)) (under A h);
       closed = λ k r z at h is fine.
-        let was : col (r .part) ≡ Some z = sym (kept (r .part) h) ∙ is in
-        ⊎-elim
+          let was : col (r .part) ≡ Some z = sym (kept (r .part) h) ∙ is in
+          ⊎-elim
           (λ e. let same : x ≡ z = some-same (subst (λ n. col n ≡ Some x) (sym e) (picked .2)) was in
-            let fine′ : ok (r .category) (s .join (s .price (r .weight)) x) = subst (λ c. ok (r .category) (s .join (s .price (r .weight)) c)) (sym same) fine in
-            subst (λ c. Filled (after (r .category)) (λ y. Within s y (s .join (s .price (r .weight)) c))) same (new k r at e fine′))
+          let fine′ : ok (r .category) (s .join (s .price (r .weight)) x) = subst (λ c. ok (r .category) (s .join (s .price (r .weight)) c)) (sym same) fine in
+          subst (λ c. Filled (after (r .category)) (λ y. Within s y (s .join (s .price (r .weight)) c))) same (new k r at e fine′))
           (λ old. sinks lawful relaxed (r .category) _ (going .closed k r z at old was fine))
           (split (r .part) h);
       lower = λ A y is. sinks lawful relaxed A y (going .lower A y is);
       origin = λ A y is. ⊎-elim
-        (λ was. going .origin A y was)
-        (λ (new : Link s rules (set done a true) a x (length rules) A y × ok A y).
+          (λ was. going .origin A y was)
+          (λ (new : Link s rules (set done a true) a x (length rules) A y × ok A y).
           let link = new .0 in
           let r = link .rule in
           let base : Chained s ok rules before (r .part) x = subst (λ n. Chained s ok rules before n x) (sym (link .parts)) (going .origin a x (picked .2)) in
           let fine : ok (r .category) (s .join (s .price (r .weight)) x) = subst (λ c. ok (r .category) c) (link .costs) (subst (λ n. ok n y) (sym (link .makes)) (new .1)) in
           subst (λ n. Chained s ok rules before n y) (link .makes) (subst (λ c. Chained s ok rules before (r .category) c) (sym (link .costs)) (above r (link .at) base fine)))
-        (relaxed .origin A y is);
+          (relaxed .origin A y is);
     }
       where
         new : (k : ℕ) (r : ChainRule) → At rules k r → r .part ≡ a → ok (r .category) (s .join (s .price (r .weight)) x) → Filled (after (r .category)) (λ y. Within s y (s .join (s .price (r .weight)) x))

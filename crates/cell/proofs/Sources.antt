@@ -30,8 +30,8 @@ module _ {Cost : Type 0} {s : Scale Cost} where
         let l = h .below in
         elim (ℕ-discrete (h .place) j) [
           | yes e ↦
-            let same = rule-same j (h .rule) d (subst (λ n. At rules n (h .rule)) e (h .at)) in
-            inr (subst (λ r. r .word ≡ w) same (h .word), subst (λ r. A ≡ r .category) same (sym (h .makes)), subst (λ r. c ≡ s .price (r .weight)) same (h .costs))
+              let same = rule-same j (h .rule) d (subst (λ n. At rules n (h .rule)) e (h .at)) in
+              inr (subst (λ r. r .word ≡ w) same (h .word), subst (λ r. A ≡ r .category) same (sym (h .makes)), subst (λ r. c ≡ s .price (r .weight)) same (h .costs))
           | no ne ↦ inl (record { place = h .place; rule = h .rule; below = omega arith; at = h .at; word = h .word; makes = h .makes; costs = h .costs })
         ]
 
@@ -50,7 +50,7 @@ module _ {Cost : Type 0} {s : Scale Cost} where
         let l = h .below in
         elim (ℕ-discrete (h .place) j) [
           | yes e ↦
-            let same = rule-same j (h .rule) d (subst (λ n. At rules n (h .rule)) e (h .at)) in
-            inr (subst (λ r. r .part ≡ part) same (h .parts), subst (λ r. getD done (r .category) false ≡ false) same (h .undone), subst (λ r. A ≡ r .category) same (sym (h .makes)), subst (λ r. c ≡ s .join (s .price (r .weight)) cost) same (h .costs))
+              let same = rule-same j (h .rule) d (subst (λ n. At rules n (h .rule)) e (h .at)) in
+              inr (subst (λ r. r .part ≡ part) same (h .parts), subst (λ r. getD done (r .category) false ≡ false) same (h .undone), subst (λ r. A ≡ r .category) same (sym (h .makes)), subst (λ r. c ≡ s .join (s .price (r .weight)) cost) same (h .costs))
           | no ne ↦ inl (record { place = h .place; rule = h .rule; below = omega arith; at = h .at; parts = h .parts; undone = h .undone; makes = h .makes; costs = h .costs })
         ]

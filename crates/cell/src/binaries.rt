@@ -8,16 +8,24 @@ ghost use Rattle.bound.specs.Gate.{Open};
 ghost use Rattle.table.specs.Column.{Grown};
 ghost use Rattle.table.specs.Memory.{view, column, Ready, Placed, Framed};
 ghost use Rattle.cell.specs.Cell.{joined, Meet, Pair};
-use bound::Bound;
-use chart::Chart;
 use crate::gate::Gate;
 use crate::offers::offer;
+use bound::Bound;
+use chart::Chart;
 use derivation::BinaryRule;
 use scale::Scale;
 use table::known;
 
 // What a rule makes of its parts over b to m and m + 1 to e.
-fn paired<S: Scale, C: Chart>(rule: BinaryRule, chart: &C, costs: &[S::Cost], kinds: usize, b: usize, m: usize, e: usize) -> Option<S::Cost>
+fn paired<S: Scale, C: Chart>(
+    rule: BinaryRule,
+    chart: &C,
+    costs: &[S::Cost],
+    kinds: usize,
+    b: usize,
+    m: usize,
+    e: usize,
+) -> Option<S::Cost>
     requires ready { ⌜ Ready kinds (seen (now chart)) (length (now costs)) ⌝ }
     requires inner { ⌜ m < e ⌝ }
     ensures { λ r. ⌜ r ≡ joined scale (rule .weight) (view (scale .neutral) kinds (seen (now (chart .entry))) (now (costs .entry)) (rule .left) b m) (view (scale .neutral) kinds (seen (now (chart .entry))) (now (costs .entry)) (rule .right) (m + 1) e) ⌝ }
@@ -32,7 +40,16 @@ fn paired<S: Scale, C: Chart>(rule: BinaryRule, chart: &C, costs: &[S::Cost], ki
 }
 
 // Offers what one rule makes at every split, where none is below `from`.
-fn meets<S: Scale, C: Chart, B: Bound<S>>(rule: BinaryRule, from: usize, chart: &mut C, costs: &mut [S::Cost], kinds: usize, b: usize, e: usize, gate: &Gate<'_, S::Cost, B>)
+fn meets<S: Scale, C: Chart, B: Bound<S>>(
+    rule: BinaryRule,
+    from: usize,
+    chart: &mut C,
+    costs: &mut [S::Cost],
+    kinds: usize,
+    b: usize,
+    e: usize,
+    gate: &Gate<'_, S::Cost, B>,
+)
     requires placed { ⌜ Placed kinds b e (seen (now chart)) (length (now costs)) ⌝ }
     requires low { ⌜ b ≤ from ⌝ }
     requires high { ⌜ from < e ⌝ }
@@ -43,13 +60,30 @@ fn meets<S: Scale, C: Chart, B: Bound<S>>(rule: BinaryRule, from: usize, chart: 
 {
     for m in from..e {
         if let Some(cost) = paired::<S, C>(rule, chart, costs, kinds, b, m, e) {
-            offer::<S, C, B>(chart, costs, kinds, b, e, gate, rule.category as usize, cost);
+            offer::<S, C, B>(
+                chart,
+                costs,
+                kinds,
+                b,
+                e,
+                gate,
+                rule.category as usize,
+                cost,
+            );
         }
     }
 }
 
 // Offers what every rule makes: one whose parts meet nowhere is passed over at the cost of one question.
-pub fn pairs<S: Scale, C: Chart, B: Bound<S>>(rules: &[BinaryRule], chart: &mut C, costs: &mut [S::Cost], kinds: usize, b: usize, e: usize, gate: &Gate<'_, S::Cost, B>)
+pub fn pairs<S: Scale, C: Chart, B: Bound<S>>(
+    rules: &[BinaryRule],
+    chart: &mut C,
+    costs: &mut [S::Cost],
+    kinds: usize,
+    b: usize,
+    e: usize,
+    gate: &Gate<'_, S::Cost, B>,
+)
     requires placed { ⌜ Placed kinds b e (seen (now chart)) (length (now costs)) ⌝ }
     requires named { ⌜ NamedBinaries (now rules) kinds ⌝ }
     ensures framed { λ _. ⌜ Framed (scale .neutral) kinds b e (seen (now (chart .entry))) (now (costs .entry)) (seen (now (chart .exit))) (now (costs .exit)) ⌝ }

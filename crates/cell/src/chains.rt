@@ -9,10 +9,10 @@ ghost use Rattle.bound.specs.Gate.{Open};
 ghost use Rattle.table.specs.Column.{Grown};
 ghost use Rattle.table.specs.Memory.{column, Ready, Placed, Framed};
 ghost use Rattle.cell.specs.Rules.{Link, Picked, chosen, Settled};
-use bound::Bound;
-use chart::Chart;
 use crate::gate::Gate;
 use crate::offers::offer;
+use bound::Bound;
+use chart::Chart;
 use derivation::ChainRule;
 use scale::Scale;
 use table::known;
@@ -30,7 +30,11 @@ fn applies<C: Chart>(rules: &[ChainRule], chart: &C, b: usize, e: usize) -> bool
 }
 
 // The cheaper of two categories, the first where they are equal.
-fn better<S: Scale>(best: Option<(usize, S::Cost)>, at: usize, cost: S::Cost) -> Option<(usize, S::Cost)>
+fn better<S: Scale>(
+    best: Option<(usize, S::Cost)>,
+    at: usize,
+    cost: S::Cost,
+) -> Option<(usize, S::Cost)>
     ensures { λ r. ⌜ r ≡ chosen scale best at cost ⌝ }
 {
     match best {
@@ -46,7 +50,14 @@ fn better<S: Scale>(best: Option<(usize, S::Cost)>, at: usize, cost: S::Cost) ->
 }
 
 // The cheapest category that is not settled.
-fn pick<S: Scale, C: Chart>(chart: &C, costs: &[S::Cost], kinds: usize, b: usize, e: usize, done: &[bool]) -> Option<(usize, S::Cost)>
+fn pick<S: Scale, C: Chart>(
+    chart: &C,
+    costs: &[S::Cost],
+    kinds: usize,
+    b: usize,
+    e: usize,
+    done: &[bool],
+) -> Option<(usize, S::Cost)>
     requires ready { ⌜ Ready kinds (seen (now chart)) (length (now costs)) ⌝ }
     requires long { ⌜ kinds ≤ length (now done) ⌝ }
     ensures { λ r. ⌜ Picked scale (column (scale .neutral) kinds b e (seen (now (chart .entry))) (now (costs .entry))) (now (done .entry)) kinds r ⌝ }
@@ -63,7 +74,18 @@ fn pick<S: Scale, C: Chart>(chart: &C, costs: &[S::Cost], kinds: usize, b: usize
 }
 
 // Offers what each rule makes above one category that is settled.
-fn relax<S: Scale, C: Chart, B: Bound<S>>(rules: &[ChainRule], chart: &mut C, costs: &mut [S::Cost], kinds: usize, b: usize, e: usize, gate: &Gate<'_, S::Cost, B>, done: &[bool], part: usize, cost: S::Cost)
+fn relax<S: Scale, C: Chart, B: Bound<S>>(
+    rules: &[ChainRule],
+    chart: &mut C,
+    costs: &mut [S::Cost],
+    kinds: usize,
+    b: usize,
+    e: usize,
+    gate: &Gate<'_, S::Cost, B>,
+    done: &[bool],
+    part: usize,
+    cost: S::Cost,
+)
     requires placed { ⌜ Placed kinds b e (seen (now chart)) (length (now costs)) ⌝ }
     requires long { ⌜ kinds ≤ length (now done) ⌝ }
     requires named { ⌜ NamedChains (now rules) kinds ⌝ }
@@ -73,13 +95,31 @@ fn relax<S: Scale, C: Chart, B: Bound<S>>(rules: &[ChainRule], chart: &mut C, co
     for rule in rules {
         let category = rule.category as usize;
         if rule.part as usize == part && !done[category] {
-            offer::<S, C, B>(chart, costs, kinds, b, e, gate, category, S::join(S::price(rule.weight), cost));
+            offer::<S, C, B>(
+                chart,
+                costs,
+                kinds,
+                b,
+                e,
+                gate,
+                category,
+                S::join(S::price(rule.weight), cost),
+            );
         }
     }
 }
 
 // Settles every category, the cheapest first.
-fn settle<S: Scale, C: Chart, B: Bound<S>>(rules: &[ChainRule], chart: &mut C, costs: &mut [S::Cost], kinds: usize, b: usize, e: usize, gate: &Gate<'_, S::Cost, B>, done: &mut [bool])
+fn settle<S: Scale, C: Chart, B: Bound<S>>(
+    rules: &[ChainRule],
+    chart: &mut C,
+    costs: &mut [S::Cost],
+    kinds: usize,
+    b: usize,
+    e: usize,
+    gate: &Gate<'_, S::Cost, B>,
+    done: &mut [bool],
+)
     requires placed { ⌜ Placed kinds b e (seen (now chart)) (length (now costs)) ⌝ }
     requires long { ⌜ kinds ≤ length (now done) ⌝ }
     requires named { ⌜ NamedChains (now rules) kinds ⌝ }
@@ -89,12 +129,31 @@ fn settle<S: Scale, C: Chart, B: Bound<S>>(rules: &[ChainRule], chart: &mut C, c
 {
     while let Some(found) = pick::<S, C>(chart, costs, kinds, b, e, done) {
         done[found.0] = true;
-        relax::<S, C, B>(rules, chart, costs, kinds, b, e, gate, done, found.0, found.1);
+        relax::<S, C, B>(
+            rules,
+            chart,
+            costs,
+            kinds,
+            b,
+            e,
+            gate,
+            done,
+            found.0,
+            found.1,
+        );
     }
 }
 
 // Closes a cell under the chain rules; where none applies there is nothing to settle.
-pub fn links<S: Scale, C: Chart, B: Bound<S>>(rules: &[ChainRule], chart: &mut C, costs: &mut [S::Cost], kinds: usize, b: usize, e: usize, gate: &Gate<'_, S::Cost, B>)
+pub fn links<S: Scale, C: Chart, B: Bound<S>>(
+    rules: &[ChainRule],
+    chart: &mut C,
+    costs: &mut [S::Cost],
+    kinds: usize,
+    b: usize,
+    e: usize,
+    gate: &Gate<'_, S::Cost, B>,
+)
     requires placed { ⌜ Placed kinds b e (seen (now chart)) (length (now costs)) ⌝ }
     requires few { ⌜ kinds ≤ 64 ⌝ }
     requires named { ⌜ NamedChains (now rules) kinds ⌝ }

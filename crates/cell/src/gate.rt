@@ -1,4 +1,4 @@
-// Which costs may stay in one cell: the pruning test of a round, at the words that stand around the cell.
+// Which costs may stay in one cell: the pruning gate of a round, at the words that stand around the cell.
 
 pub struct Gate<'a, Cost, B> {
     pub bound: &'a B,

@@ -8,15 +8,25 @@ ghost use Rattle.table.specs.Column.{Grown};
 ghost use Rattle.table.specs.Memory.{column, Placed, Framed};
 ghost use Rattle.cell.specs.Rules.{Leaf};
 ghost use Rattle.cell.specs.Cell.{Single};
-use bound::Bound;
-use chart::Chart;
 use crate::gate::Gate;
 use crate::offers::offer;
+use bound::Bound;
+use chart::Chart;
 use derivation::WordRule;
 use scale::Scale;
 
 // Offers what the rules of a word give.
-fn leaves<S: Scale, C: Chart, B: Bound<S>>(rules: &[WordRule], vocabulary: usize, word: u16, chart: &mut C, costs: &mut [S::Cost], kinds: usize, b: usize, e: usize, gate: &Gate<'_, S::Cost, B>)
+fn leaves<S: Scale, C: Chart, B: Bound<S>>(
+    rules: &[WordRule],
+    vocabulary: usize,
+    word: u16,
+    chart: &mut C,
+    costs: &mut [S::Cost],
+    kinds: usize,
+    b: usize,
+    e: usize,
+    gate: &Gate<'_, S::Cost, B>,
+)
     requires placed { ⌜ Placed kinds b e (seen (now chart)) (length (now costs)) ⌝ }
     requires named { ⌜ NamedWords (now rules) kinds vocabulary ⌝ }
     ensures framed { λ _. ⌜ Framed (scale .neutral) kinds b e (seen (now (chart .entry))) (now (costs .entry)) (seen (now (chart .exit))) (now (costs .exit)) ⌝ }
@@ -24,13 +34,32 @@ fn leaves<S: Scale, C: Chart, B: Bound<S>>(rules: &[WordRule], vocabulary: usize
 {
     for rule in rules {
         if rule.word == word {
-            offer::<S, C, B>(chart, costs, kinds, b, e, gate, rule.category as usize, S::price(rule.weight));
+            offer::<S, C, B>(
+                chart,
+                costs,
+                kinds,
+                b,
+                e,
+                gate,
+                rule.category as usize,
+                S::price(rule.weight),
+            );
         }
     }
 }
 
 // Offers what the word rules give, where there is one word only.
-pub fn single<S: Scale, C: Chart, B: Bound<S>>(rules: &[WordRule], vocabulary: usize, text: &[u16], chart: &mut C, costs: &mut [S::Cost], kinds: usize, b: usize, e: usize, gate: &Gate<'_, S::Cost, B>)
+pub fn single<S: Scale, C: Chart, B: Bound<S>>(
+    rules: &[WordRule],
+    vocabulary: usize,
+    text: &[u16],
+    chart: &mut C,
+    costs: &mut [S::Cost],
+    kinds: usize,
+    b: usize,
+    e: usize,
+    gate: &Gate<'_, S::Cost, B>,
+)
     requires placed { ⌜ Placed kinds b e (seen (now chart)) (length (now costs)) ⌝ }
     requires covered { ⌜ e ≤ length (now text) ⌝ }
     requires named { ⌜ NamedWords (now rules) kinds vocabulary ⌝ }
@@ -38,6 +67,16 @@ pub fn single<S: Scale, C: Chart, B: Bound<S>>(rules: &[WordRule], vocabulary: u
     ensures grown { λ _. ⌜ Grown scale (Open scale (now (gate .entry) .ceiling) (limit (now (now (gate .entry) .bound))) (now (gate .entry) .left) (now (gate .entry) .right)) (Single scale (now (rules .entry)) (now (text .entry)) b e) (column (scale .neutral) kinds b e (seen (now (chart .entry))) (now (costs .entry))) (column (scale .neutral) kinds b e (seen (now (chart .exit))) (now (costs .exit))) ⌝ }
 {
     if b == e {
-        leaves::<S, C, B>(rules, vocabulary, text[b - 1], chart, costs, kinds, b, e, gate);
+        leaves::<S, C, B>(
+            rules,
+            vocabulary,
+            text[b - 1],
+            chart,
+            costs,
+            kinds,
+            b,
+            e,
+            gate,
+        );
     }
 }

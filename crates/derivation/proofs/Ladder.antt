@@ -59,12 +59,12 @@ module _ {Cost : Type 0} {s : Scale Cost} (lawful : Lawful s) where
   module _ {g : Grammar} {span : ℕ} {entry : Entries Cost} (bounds : Bounds s g span entry) {ladder : List Cost} {ws : List ℕ} (short : length ws ≤ span) {k : ℕ} {x : Cost} (success : Succeeds s g entry ladder ws k x) where
     before-above : (j : ℕ) (t : Cost) → j < k → ceiling-at ladder j ≡ Some t → s .above x t ≡ true
     before-above j t less is = elim (cases-bool (s .above x t)) [
-        inl yes-above ↦ yes-above
+      | inl yes-above ↦ yes-above
       | inr low ↦
           let d = success .kept .tree in
           let passes = prunes lawful bounds t ws short .kept d (subst (λ y. Within s y t) (sym (success .kept .costs)) low) in
           absurd (success .before j less d (subst (λ (o : Option Cost). Passes s entry o (length ws) d) (sym is) passes))
-      ]
+    ]
 
     here-within : (t : Cost) → ceiling-at ladder k ≡ Some t → Within s x t
     here-within t is =

@@ -65,10 +65,10 @@ module _ {Cost : Type 0} {s : Scale Cost} (lawful : Lawful s) where
         (fine (chain k at d) around before after low, passes-in d (Surrounding.chain k at around) before after (subst (λ c. Within s c ceiling) (step-chain _ _ _) low))
     passes-in {b = b} {e = e} {l = l} {r = r} (binary {m = m} k at d f) around before after low =
         let first = spans d in
-        let second = spans f in
-        ( fine (binary k at d f) around before after low
-        , passes-in d (Surrounding.left k at around f) before (omega arith) (subst (λ c. Within s c ceiling) (step-left _ _ _ _) low)
-        , passes-in f (Surrounding.right k at around d) (omega arith) after (subst (λ c. Within s c ceiling) (step-right _ _ _ _) low)
+        let second = spans f in (
+          fine (binary k at d f) around before after low,
+          passes-in d (Surrounding.left k at around f) before (omega arith) (subst (λ c. Within s c ceiling) (step-left _ _ _ _) low),
+          passes-in f (Surrounding.right k at around d) (omega arith) after (subst (λ c. Within s c ceiling) (step-right _ _ _ _) low),
         )
 
 pub fine-of : {Cost : Type 0} (s : Scale Cost) (entry : Entries Cost) (ceiling : Option Cost) (n : ℕ) {g : Grammar} {ws : List ℕ} {A b e : ℕ} (d : Derivation g ws A b e) → Passes s entry ceiling n d → Fine s entry ceiling n d

@@ -1,18 +1,18 @@
 -- What holds of every draft, as one record, and how it lasts while names and rules come and go.
-use mathlib.Core.Path.{_≡_, refl, sym, ap, subst, _∙_}
+use mathlib.Core.Path.{_≡_, sym, ap, subst, _∙_}
 use mathlib.Core.Bool.{Bool, true, false, cond}
 use mathlib.Core.List.{List, [], _∷_, _++_}
-use mathlib.Core.Logic.{_⊎_, inl, inr}
-use Prim.Native.Nat.{ℕ, _+_, _≤_, _<_, min}
+use mathlib.Core.Logic.{inl, inr}
+use Prim.Native.Nat.{ℕ, _+_, _≤_, _<_}
 use native.Mathlib.Omega.{arith}
 use lib.Dec.{ltb}
-use lib.ListN.{length, take, getD}
+use lib.ListN.{length, take}
 use Rattle.std.specs.declared.option.Option.{Option}
 use Rattle.std.specs.declared.option.Option.the-variants.{Some, None}
 use Rattle.std.specs.declared.result.Result.{Result}
 use Rattle.std.specs.declared.result.Result.the-variants.{Ok, Err}
 use Rattle.std.proofs.shelf.Tests.{ltb-true, lt-ltb, cases-bool, cases-lt}
-use Rattle.std.proofs.shelf.Lists.{length-take, length-push, take-all, take-append-le, getD-append-left, getD-push}
+use Rattle.std.proofs.shelf.Lists.{length-push, take-all, take-append-le, getD-append-left, getD-push}
 use Rattle.derivation.specs.Named.{At}
 use Rattle.refusals.specs.declared.Refusal.{Refusal}
 use Rattle.refusals.specs.declared.Refusal.the-variants.{GrammarFull}
@@ -51,18 +51,20 @@ err-not-ok e x h = let z : _≡_ {A = ℕ} 0 1 = cc in omega arith
 pub entered : (most : ℕ) (names : List (List ℕ)) (name : List ℕ) (k : ℕ) (more : List (List ℕ)) → entering most names name ≡ Ok (k, more) → Entered most names k more
 entered most names name k more h =
     let old : (a : ℕ) → a < length names → _≡_ {A = Result (ℕ × List (List ℕ)) Refusal} (Ok (a, names)) (Ok (k, more)) → Entered most names k more =
-        λ a l e. let is = ok-parts a k names more e in let at : a ≡ k = is .0 in subst (Entered most names k) (is .1) (record { grown = same-grown most names; below = omega arith }) in
+    λ a l e. let is = ok-parts a k names more e in let at : a ≡ k = is .0 in subst (Entered most names k) (is .1) (record { grown = same-grown most names; below = omega arith }) in
     let new : length names < most → _≡_ {A = Result (ℕ × List (List ℕ)) Refusal} (Ok (length names, names ++ name ∷ [])) (Ok (k, more)) → Entered most names k more =
-        λ l e.
-          let is = ok-parts (length names) k (names ++ name ∷ []) more e in
-          let at : length names ≡ k = is .0 in
-          let long = length-push names name in
-          subst (Entered most names k) (is .1) (record { grown = record { front = take-append-le (length names) names (name ∷ []) (omega arith) ∙ take-all (length names) names (omega arith); longer = omega arith; within = λ m. omega arith }; below = omega arith }) in
+    λ l e.
+    let is = ok-parts (length names) k (names ++ name ∷ []) more e in
+    let at : length names ≡ k = is .0 in
+    let long = length-push names name in
+    subst (Entered most names k) (is .1) (record { grown = record { front = take-append-le (length names) names (name ∷ []) (omega arith) ∙ take-all (length names) names (omega arith); longer = omega arith; within = λ m. omega arith }; below = omega arith }) in
     elim (cases-bool (ltb (numberOf names name) (length names))) [
-      inl t ↦ old (numberOf names name) (ltb-true _ _ t) (rw t at h)
-    | inr t ↦ elim (cases-bool (ltb (length names) most)) [
-        inl u ↦ new (ltb-true _ _ u) (rw (t, u) at h)
-      | inr u ↦ absurd (err-not-ok GrammarFull (k, more) (rw (t, u) at h)) ] ]
+      | inl t ↦ old (numberOf names name) (ltb-true _ _ t) (rw t at h)
+      | inr t ↦ elim (cases-bool (ltb (length names) most)) [
+        | inl u ↦ new (ltb-true _ _ u) (rw (t, u) at h)
+        | inr u ↦ absurd (err-not-ok GrammarFull (k, more) (rw (t, u) at h))
+      ]
+    ]
 
 -- whatever `enter` answers, the names have grown
 pub gives-grown : (most : ℕ) (names : List (List ℕ)) (name : List ℕ) (r : Result ℕ (Stop Refusal)) (more : List (List ℕ)) → Gives (entering most names name) names r more → Grown most names more
@@ -77,7 +79,10 @@ pub fit-categories : (s : Seen) (more : List (List ℕ)) → Fit s → Grown (s 
 fit-categories s more f g =
     let up = g .longer in
     record {
-      most = f .most; few = g .within (f .few); known = f .known; count = f .count;
+      most = f .most;
+      few = g .within (f .few);
+      known = f .known;
+      count = f .count;
       top = top-wider (s .top) _ _ up (f .top);
       lexical = λ k r at. let old = f .lexical k r at in (omega arith, old .1);
       chains = λ k r at. let old = f .chains k r at in (omega arith, omega arith);
@@ -88,9 +93,14 @@ pub fit-words : (s : Seen) (more : List (List ℕ)) → Fit s → Grown 512 (s .
 fit-words s more f g =
     let up = g .longer in
     record {
-      most = f .most; few = f .few; known = g .within (f .known); count = f .count; top = f .top;
+      most = f .most;
+      few = f .few;
+      known = g .within (f .known);
+      count = f .count;
+      top = f .top;
       lexical = λ k r at. let old = f .lexical k r at in (old .0, omega arith);
-      chains = f .chains; binaries = f .binaries;
+      chains = f .chains;
+      binaries = f .binaries;
     }
 
 -- what holds of each rule lasts when one more may be pushed
@@ -98,8 +108,9 @@ each-push : {X : Type 0} (P : X → Type 0) (xs : List X) (x : X) → ((k : ℕ)
 each-push P xs x all new k r at =
     let long = length-push xs x in
     elim (cases-lt k (length xs)) [
-      inl l ↦ all k r (record { inside = l; is = sym (getD-append-left xs (x ∷ []) r k l) ∙ at .is })
-    | inr l ↦ let here : length xs ≡ k = omega (arith, at .inside) in subst P (sym (getD-push xs x r k here) ∙ at .is) new ]
+      | inl l ↦ all k r (record { inside = l; is = sym (getD-append-left xs (x ∷ []) r k l) ∙ at .is })
+      | inr l ↦ let here : length xs ≡ k = omega (arith, at .inside) in subst P (sym (getD-push xs x r k here) ∙ at .is) new
+    ]
 
 pub record Pushed {X : Type 0} (P : X → Type 0) (xs ys : List X) : Type 0 where
   pub each : (k : ℕ) (r : X) → At ys k r → P r

@@ -3,3 +3,5 @@ pub mod Named
 pub mod Some
 pub mod Fits
 pub mod Tried
+pub mod Numbers
+pub mod Added

@@ -1,13 +1,13 @@
 -- What the ghost of a table of names tells of its places, and what reading, adding and cutting do to the names.
-use mathlib.Core.Path.{_≡_, refl, sym, ap, subst, _∙_}
-use mathlib.Core.Bool.{Bool, true, false, not}
+use mathlib.Core.Path.{_≡_, sym, ap, subst, _∙_}
+use mathlib.Core.Bool.{true, false, not}
 use mathlib.Core.List.{List, [], _∷_, _++_}
 use Prim.Native.Nat.{ℕ, _+_, _-_, _≤_, _<_}
 use native.Mathlib.Omega.{arith}
 use lib.ListN.{length, take, drop, getD}
 use Rattle.std.specs.Of.Vec.{vec-items, vec-len}
 use Rattle.std.specs.shelf.Text.{sameBytes}
-use Rattle.std.proofs.shelf.Lists.{length-map, getD-map, getD-past, map-push, take-map, take-append-le, take-all, drop-at, take-take, length-append}
+use Rattle.std.proofs.shelf.Lists.{length-map, getD-map, getD-past, map-push, take-map, take-append-le, take-all, drop-at, take-take}
 use Rattle.std.proofs.shelf.Sums.{leading-drop-yes, leading-drop-no, leading-drop-all}
 use Rattle.grammar.specs.declared.place.Place.{Place}
 use Rattle.grammar.specs.declared.names.Names.{Names}
@@ -74,3 +74,6 @@ missed names name k l = leading-drop-all (λ other. not (sameBytes other name)) 
 -- a text and places that are equal to others give the same names
 pub by-parts : {t u : List ℕ} {ps qs : List Place} {names : List (List ℕ)} → t ≡ u → ps ≡ qs → spellings u qs ≡ names → spellings t ps ≡ names
 by-parts {u = u} {ps = ps} e f h = ap (λ x. spellings x ps) e ∙ ap (spellings u) f ∙ h
+
+pub by-places : {ps qs : List Place} {m n : ℕ} → ps ≡ qs → m ≡ n → tiles 0 qs n ≡ true → tiles 0 ps m ≡ true
+by-places {ps = ps} {n = n} e f h = ap (tiles 0 ps) f ∙ ap (λ x. tiles 0 x n) e ∙ h

@@ -3,19 +3,14 @@ use mathlib.Core.Path.{_≡_}
 use Rattle.std.specs.declared.result.Result.{Result}
 use Rattle.std.specs.declared.result.Result.the-variants.{Ok, Err}
 use Rattle.lines.specs.declared.fault.Stop.{Stop}
-use Rattle.lines.specs.declared.fault.Stop.the-variants.{Memory, Refusal}
+use Rattle.lines.specs.Said.{Stops}
 
--- why there is no answer: a refusal is the one that is due; of memory nothing is said
-abbrev pub Stops : {X F : Type 0} → Result X F → Stop F → Type 0
-Stops due Memory = Unit {0}
-Stops due (Refusal f) = due ≡ Err f
-
--- the value afterwards is the one that is due; where there is no answer it is as before
+-- the value afterwards is the one that is due; where there is no answer it is as before, and a refusal is the one that is due
 abbrev pub Alters : {S F : Type 0} → Result S F → S → Result (Unit {0}) (Stop F) → S → Type 0
 Alters due before (Ok x) after = due ≡ Ok after
-Alters due before (Err e) after = (after ≡ before) × Stops due e
+Alters due before (Err e) after = (after ≡ before) × Stops e due
 
 -- the same where the call also returns something
 abbrev pub Gives : {X S F : Type 0} → Result (X × S) F → S → Result X (Stop F) → S → Type 0
 Gives due before (Ok x) after = due ≡ Ok (x, after)
-Gives due before (Err e) after = (after ≡ before) × Stops due e
+Gives due before (Err e) after = (after ≡ before) × Stops e due

@@ -7,3 +7,4 @@ pub mod Drafts
 pub mod Trying
 pub mod Moving
 pub mod Taking
+pub mod Added

@@ -1,10 +1,10 @@
 -- Closing a draft, reopening a closed grammar, and its leases.
 use mathlib.Core.Path.{_≡_}
 use mathlib.Core.Bool.{Bool, cond, _&&_}
-use mathlib.Core.List.{List}
+use mathlib.Core.List.{List, []}
 use Prim.Native.Nat.{ℕ, _+_, _-_, _<_}
 use lib.Dec.{eqb, ltb}
-use lib.ListN.{length}
+use lib.ListN.{length, getD}
 use Rattle.std.specs.Of.Vec.{vec-items}
 use Rattle.std.specs.declared.option.Option.{Option}
 use Rattle.std.specs.declared.option.Option.the-variants.{Some, None}
@@ -70,3 +70,8 @@ takenIn g l = withOut g (cond (fitting g l) (g .out - 1) (g .out))
 -- the number of a spelling that is among the names
 abbrev pub lookup : List (List ℕ) → List ℕ → Option ℕ
 lookup names name = cond (ltb (numberOf names name) (length names)) (Some (numberOf names name)) None
+
+-- a number that is found is that of a name spelled so; where none is found, no name is spelled so
+abbrev pub Spelled : List (List ℕ) → List ℕ → Option ℕ → Type 0
+Spelled names name None = (k : ℕ) → k < length names → getD names k [] ≡ name → ⊥
+Spelled names name (Some k) = (k < length names) × (getD names k [] ≡ name)

@@ -1,9 +1,9 @@
 -- Names as places in a text, and the number of a name.
-use mathlib.Core.Bool.{Bool, not, cond, _&&_}
-use mathlib.Core.List.{List, [], _∷_, _++_, map}
+use mathlib.Core.Bool.{Bool, not, _&&_}
+use mathlib.Core.List.{List, [], _∷_, map}
 use Prim.Native.Nat.{ℕ, _-_}
-use lib.Dec.{eqb, leb, ltb}
-use lib.ListN.{length, take, drop}
+use lib.Dec.{eqb, leb}
+use lib.ListN.{take, drop}
 use Rattle.std.specs.shelf.Lists.{leading}
 use Rattle.std.specs.shelf.Text.{sameBytes}
 use Rattle.grammar.specs.declared.place.Place.{Place}
@@ -23,7 +23,3 @@ tiles from (p ∷ ps) to = eqb (p .start) from && (leb from (p .end) && tiles (p
 -- the number of a name: its place among the names; of a new name, the number that it gets when it is added
 abbrev pub numberOf : List (List ℕ) → List ℕ → ℕ
 numberOf names name = leading (λ other. not (sameBytes other name)) names
-
--- the names with this one among them: a new name comes after all others
-abbrev pub withName : List (List ℕ) → List ℕ → List (List ℕ)
-withName names name = cond (ltb (numberOf names name) (length names)) names (names ++ name ∷ [])

@@ -1,12 +1,8 @@
 // Adding to a draft: names get their numbers, and then a rule or the top stands there.
 ghost use mathlib.Core.Path.{_≡_};
-ghost use mathlib.Core.List.{[]};
-ghost use mathlib.Core.Bool.{not};
-ghost use Prim.Native.Nat.{ℕ, _+_, _<_, _≤_, min};
+ghost use Prim.Native.Nat.{_<_};
 ghost use lib.Dec.{ltb};
 ghost use lib.ListN.{length};
-ghost use Rattle.std.specs.Of.Vec.{vec-items};
-ghost use Rattle.std.specs.Vec.{made};
 ghost use Rattle.grammar.specs.Listed.{listed};
 ghost use Rattle.grammar.specs.Seen.{Fit, rules, empty};
 ghost use Rattle.grammar.specs.Drafts.{seen};
@@ -17,27 +13,32 @@ use crate::draft::Draft;
 use crate::flaw::Flaw;
 use crate::flaw::Part;
 use crate::names::Names;
-use lines::Stop;
-use crate::symbols::holds;
 use crate::symbols::BinarySymbols;
 use crate::symbols::ChainSymbols;
 use crate::symbols::LexicalSymbols;
+use crate::symbols::holds;
 use derivation::BinaryRule;
 use derivation::ChainRule;
 use derivation::WordRule;
+use lines::Stop;
 use refusals::Refusal;
 use std::alloc::Global;
 
 // The most categories that any grammar may have, the most words, and the most rules.
 const CATEGORIES: usize = 64;
+
 const WORDS: usize = 512;
+
 const RULES: usize = 1024;
 
 // A refusal of the line as a whole.
 fn flaw(refusal: Refusal) -> Flaw
     ensures { λ r. ⌜ r ≡ record { refusal = refusal; part = Part.Line } ⌝ }
 {
-    Flaw { refusal, part: Part::Line }
+    Flaw {
+        refusal,
+        part: Part::Line,
+    }
 }
 
 impl Draft {
@@ -92,7 +93,10 @@ impl Draft {
         match self.words.enter(name, WORDS) {
             Ok(number) => Ok(number as u16),
             Err(Stop::Memory) => Err(Stop::Memory),
-            Err(Stop::Refusal(refusal)) => Err(Stop::Refusal(Flaw { refusal, part: Part::First })),
+            Err(Stop::Refusal(refusal)) => Err(Stop::Refusal(Flaw {
+                refusal,
+                part: Part::First,
+            })),
         }
     }
 
@@ -177,7 +181,11 @@ impl Draft {
     {
         let category = self.head(category)?;
         let word = self.word(word)?;
-        self.put_lexical(WordRule { category, word, weight })
+        self.put_lexical(WordRule {
+            category,
+            word,
+            weight,
+        })
     }
 
     fn try_chain(&mut self, weight: u16, category: &[u8], part: &[u8]) -> Result<(), Stop<Flaw>>
@@ -185,16 +193,31 @@ impl Draft {
     {
         let category = self.head(category)?;
         let part = self.category(part, Part::First)?;
-        self.put_chain(ChainRule { category, part, weight })
+        self.put_chain(ChainRule {
+            category,
+            part,
+            weight,
+        })
     }
 
-    fn try_binary(&mut self, weight: u16, category: &[u8], left: &[u8], right: &[u8]) -> Result<(), Stop<Flaw>>
+    fn try_binary(
+        &mut self,
+        weight: u16,
+        category: &[u8],
+        left: &[u8],
+        right: &[u8],
+    ) -> Result<(), Stop<Flaw>>
         ensures { λ r. ⌜ Tries (addingBinary (seen (now (self .entry))) weight (now (category .entry)) (now (left .entry)) (now (right .entry))) (seen (now (self .entry))) r (seen (now (self .exit))) ⌝ }
     {
         let category = self.head(category)?;
         let left = self.category(left, Part::First)?;
         let right = self.category(right, Part::Second)?;
-        self.put_binary(BinaryRule { category, left, right, weight })
+        self.put_binary(BinaryRule {
+            category,
+            left,
+            right,
+            weight,
+        })
     }
 
     // Adds the line `(top A)`.
@@ -210,7 +233,12 @@ impl Draft {
     }
 
     // Adds the line `(lex W (A w))`.
-    pub fn add_lexical(&mut self, weight: u16, category: &[u8], word: &[u8]) -> Result<(), Stop<Flaw>>
+    pub fn add_lexical(
+        &mut self,
+        weight: u16,
+        category: &[u8],
+        word: &[u8],
+    ) -> Result<(), Stop<Flaw>>
         ensures { λ r. ⌜ Alters (addingLexical (seen (now (self .entry))) weight (now (category .entry)) (now (word .entry))) (seen (now (self .entry))) r (seen (now (self .exit))) ⌝ }
     {
         let (categories, words) = (self.categories.len(), self.words.len());
@@ -234,7 +262,13 @@ impl Draft {
     }
 
     // Adds the line `(rule W (A B C))`.
-    pub fn add_binary(&mut self, weight: u16, category: &[u8], left: &[u8], right: &[u8]) -> Result<(), Stop<Flaw>>
+    pub fn add_binary(
+        &mut self,
+        weight: u16,
+        category: &[u8],
+        left: &[u8],
+        right: &[u8],
+    ) -> Result<(), Stop<Flaw>>
         ensures { λ r. ⌜ Alters (addingBinary (seen (now (self .entry))) weight (now (category .entry)) (now (left .entry)) (now (right .entry))) (seen (now (self .entry))) r (seen (now (self .exit))) ⌝ }
     {
         let (categories, words) = (self.categories.len(), self.words.len());

@@ -3,7 +3,7 @@ ghost use mathlib.Core.Path.{_≡_};
 ghost use mathlib.Core.List.{[]};
 ghost use lib.ListN.{getD};
 ghost use Rattle.grammar.specs.Listed.{listed};
-ghost use Rattle.grammar.specs.Moving.{Closing, Reopening, sealed, drawing, drawn, takingIn, takenIn, lookup};
+ghost use Rattle.grammar.specs.Moving.{Closing, Reopening, sealed, drawing, drawn, takingIn, takenIn, lookup, Spelled};
 use crate::closed::Closed;
 use crate::closed::Lease;
 use crate::draft::Draft;
@@ -20,11 +20,41 @@ impl Draft {
         ensures { λ r. ⌜ Closing self r ⌝ }
     {
         let Some(top) = self.top else {
-            return Err((Fault { refusal: Refusal::WrongTop, line: 0, byte: 0 }, self));
+            return Err((
+                Fault {
+                    refusal: Refusal::WrongTop,
+                    line: 0,
+                    byte: 0,
+                },
+                self,
+            ));
         };
-        let Draft { number, limit, top: _, categories, words, lexical, chains, binaries } = self;
-        let rules = Rules { top, categories: categories.len(), vocabulary: words.len(), lexical, chains, binaries };
-        Ok(Closed { rules, categories, words, number, limit, out: 0 })
+        let Draft {
+            number,
+            limit,
+            top: _,
+            categories,
+            words,
+            lexical,
+            chains,
+            binaries,
+        } = self;
+        let rules = Rules {
+            top,
+            categories: categories.len(),
+            vocabulary: words.len(),
+            lexical,
+            chains,
+            binaries,
+        };
+        Ok(Closed {
+            rules,
+            categories,
+            words,
+            number,
+            limit,
+            out: 0,
+        })
     }
 }
 
@@ -36,9 +66,32 @@ impl Closed {
         if self.out > 0 {
             return Err((Refusal::LeasesOut, self));
         }
-        let Closed { rules, categories, words, number, limit, out: _ } = self;
-        let Rules { top, categories: _, vocabulary: _, lexical, chains, binaries } = rules;
-        Ok(Draft { number, limit, top: Some(top), categories, words, lexical, chains, binaries })
+        let Closed {
+            rules,
+            categories,
+            words,
+            number,
+            limit,
+            out: _,
+        } = self;
+        let Rules {
+            top,
+            categories: _,
+            vocabulary: _,
+            lexical,
+            chains,
+            binaries,
+        } = rules;
+        Ok(Draft {
+            number,
+            limit,
+            top: Some(top),
+            categories,
+            words,
+            lexical,
+            chains,
+            binaries,
+        })
     }
 
     // Gives a lease; a ninth one out is refused.
@@ -50,7 +103,9 @@ impl Closed {
             return Err(Refusal::NinthLease);
         }
         self.out += 1;
-        Ok(Lease { number: self.number })
+        Ok(Lease {
+            number: self.number,
+        })
     }
 
     // Takes a lease back, or hands it back as it was.
@@ -81,10 +136,15 @@ impl Closed {
 
     // The number of the word that is spelled so.
     pub fn word(&self, spelling: &[u8]) -> Option<u16>
-        ensures { λ r. ⌜ r ≡ lookup (listed (now (self .entry) .words)) (now (spelling .entry)) ⌝ }
+        ensures value { λ r. ⌜ r ≡ lookup (listed (now (self .entry) .words)) (now (spelling .entry)) ⌝ }
+        ensures spelled { λ r. ⌜ Spelled (listed (now (self .entry) .words)) (now (spelling .entry)) r ⌝ }
     {
         let number = self.words.number(spelling);
-        if number < self.words.len() { Some(number as u16) } else { None }
+        if number < self.words.len() {
+            Some(number as u16)
+        } else {
+            None
+        }
     }
 
     // The spelling of a category; no bytes where there is none.

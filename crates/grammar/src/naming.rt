@@ -27,7 +27,10 @@ impl Names {
     pub fn new(heap: Global) -> Names
         ensures { λ r. ⌜ listed r ≡ [] ⌝ }
     {
-        Names { text: Vec::new(heap), places: Vec::new(heap) }
+        Names {
+            text: Vec::new(heap),
+            places: Vec::new(heap),
+        }
     }
 
     pub fn len(&self) -> usize

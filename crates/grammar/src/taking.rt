@@ -15,8 +15,19 @@ fn start_of(form: &Form, part: Part) -> u16
     ensures { λ r. ⌜ r ≡ startOf (now (form .entry)) part ⌝ }
 {
     match (form, part) {
-        (Form::Top { category } | Form::Chain { category, .. } | Form::Binary { category, .. } | Form::Lexical { category, .. }, Part::Category) => category.start,
-        (Form::Chain { part: first, .. } | Form::Binary { left: first, .. } | Form::Lexical { word: first, .. }, Part::First) => first.start,
+        (
+            Form::Top { category }
+            | Form::Chain { category, .. }
+            | Form::Binary { category, .. }
+            | Form::Lexical { category, .. },
+            Part::Category,
+        ) => category.start,
+        (
+            Form::Chain { part: first, .. }
+            | Form::Binary { left: first, .. }
+            | Form::Lexical { word: first, .. },
+            Part::First,
+        ) => first.start,
         (Form::Binary { right, .. }, Part::Second) => right.start,
         _ => 0,
     }
@@ -29,9 +40,22 @@ impl Draft {
     {
         match form {
             Form::Top { category } => self.add_top(category.of(line)),
-            Form::Chain { weight, category, part } => self.add_chain(*weight, category.of(line), part.of(line)),
-            Form::Binary { weight, category, left, right } => self.add_binary(*weight, category.of(line), left.of(line), right.of(line)),
-            Form::Lexical { weight, category, word } => self.add_lexical(*weight, category.of(line), word.of(line)),
+            Form::Chain {
+                weight,
+                category,
+                part,
+            } => self.add_chain(*weight, category.of(line), part.of(line)),
+            Form::Binary {
+                weight,
+                category,
+                left,
+                right,
+            } => self.add_binary(*weight, category.of(line), left.of(line), right.of(line)),
+            Form::Lexical {
+                weight,
+                category,
+                word,
+            } => self.add_lexical(*weight, category.of(line), word.of(line)),
             Form::Scale(_) | Form::Ladder(_) | Form::Say(_) => Ok(()),
         }
     }
@@ -43,7 +67,10 @@ impl Draft {
         match self.add(line, form) {
             Ok(()) => Ok(()),
             Err(Stop::Memory) => Err(Stop::Memory),
-            Err(Stop::Refusal(flaw)) => Err(Stop::Refusal(LineFault { refusal: flaw.refusal, byte: usize::from(start_of(form, flaw.part)) + 1 })),
+            Err(Stop::Refusal(flaw)) => Err(Stop::Refusal(LineFault {
+                refusal: flaw.refusal,
+                byte: usize::from(start_of(form, flaw.part)) + 1,
+            })),
         }
     }
 }

@@ -91,7 +91,7 @@ module _ {X : Type 0} where
   -- a cause is answered where it has a place
   told : (cause : Refusal) (n : ℕ) (o : Option ℕ) (r : Result X LineFault) (k : ℕ) → number cause < n → From n r → unless cause o r ≡ Err (faultAt cause k) → o ≡ Some k
   told cause n None r k h p e = absurd (let q : n ≤ number cause = subst (From n) e p in omega arith)
-  told cause n (Some j) r k h p e = 
+  told cause n (Some j) r k h p e =
       let b : j + 1 ≡ k + 1 = ap (λ (f : LineFault). f .byte) (same-fault _ _ e) in
       ap Some (omega arith)
 
@@ -139,25 +139,24 @@ module _ (allowed : Allowed) (line : List ℕ) (k : ℕ) where
     foreign = λ e. first-at (Foreign-at line) foreign (finds-foreign line) (told ForeignByte 2 foreign _ k (omega arith) second-from (sym is ∙ e));
     foreign-told = λ p. is ∙ ap (λ o. unless ForeignByte o (unless TooLong long (unless Unpaired unpaired inner))) (finds-some (Foreign-at line) foreign k (finds-foreign line) p);
     long = λ e.
-      let one = passed ForeignByte TooLong foreign _ k (omega arith) (sym is ∙ e) in
-      (nowhere (Foreign-at line) foreign (finds-foreign line) (one .0), first-at (Long-at line) long (finds-long line) (told TooLong 3 long _ k (omega arith) third-from (one .1)));
+        let one = passed ForeignByte TooLong foreign _ k (omega arith) (sym is ∙ e) in
+        (nowhere (Foreign-at line) foreign (finds-foreign line) (one .0), first-at (Long-at line) long (finds-long line) (told TooLong 3 long _ k (omega arith) third-from (one .1)));
     long-told = λ n p.
-      is
-      ∙ ap (λ o. unless ForeignByte o (unless TooLong long (unless Unpaired unpaired inner))) (finds-none (Foreign-at line) foreign (finds-foreign line) n)
-      ∙ ap (λ o. unless TooLong o (unless Unpaired unpaired inner)) (finds-some (Long-at line) long k (finds-long line) p);
+        is
+        ∙ ap (λ o. unless ForeignByte o (unless TooLong long (unless Unpaired unpaired inner))) (finds-none (Foreign-at line) foreign (finds-foreign line) n)
+        ∙ ap (λ o. unless TooLong o (unless Unpaired unpaired inner)) (finds-some (Long-at line) long k (finds-long line) p);
     unpaired = λ e.
-      let one = passed ForeignByte Unpaired foreign _ k (omega arith) (sym is ∙ e) in
-      let two = passed TooLong Unpaired long _ k (omega arith) (one .1) in
-      (
-        nowhere (Foreign-at line) foreign (finds-foreign line) (one .0),
-        nowhere (Long-at line) long (finds-long line) (two .0),
-        first-at (Unpaired-at line) unpaired (finds-unpaired line) (told Unpaired 4 unpaired _ k (omega arith) inner-from (two .1)),
-      );
+        let one = passed ForeignByte Unpaired foreign _ k (omega arith) (sym is ∙ e) in
+        let two = passed TooLong Unpaired long _ k (omega arith) (one .1) in (
+          nowhere (Foreign-at line) foreign (finds-foreign line) (one .0),
+          nowhere (Long-at line) long (finds-long line) (two .0),
+          first-at (Unpaired-at line) unpaired (finds-unpaired line) (told Unpaired 4 unpaired _ k (omega arith) inner-from (two .1)),
+        );
     unpaired-told = λ n m p.
-      is
-      ∙ ap (λ o. unless ForeignByte o (unless TooLong long (unless Unpaired unpaired inner))) (finds-none (Foreign-at line) foreign (finds-foreign line) n)
-      ∙ ap (λ o. unless TooLong o (unless Unpaired unpaired inner)) (finds-none (Long-at line) long (finds-long line) m)
-      ∙ ap (λ o. unless Unpaired o inner) (finds-some (Unpaired-at line) unpaired k (finds-unpaired line) p);
+        is
+        ∙ ap (λ o. unless ForeignByte o (unless TooLong long (unless Unpaired unpaired inner))) (finds-none (Foreign-at line) foreign (finds-foreign line) n)
+        ∙ ap (λ o. unless TooLong o (unless Unpaired unpaired inner)) (finds-none (Long-at line) long (finds-long line) m)
+        ∙ ap (λ o. unless Unpaired o inner) (finds-some (Unpaired-at line) unpaired k (finds-unpaired line) p);
   }
 
 pub faults-have-causes : Faults-have-causes

@@ -60,9 +60,9 @@ module _ (p : ℕ → Bool) where
   leading-at-least xs m z all =
       ⊎-elim
       (λ h. absurd (⊎-elim
-          (λ k. both-ways _ (leading-end xs (leading p xs) refl k) (all (leading p xs) h))
-          (λ k. both-ways _ (ap p (getD-past xs (leading p xs) 0 k) ∙ z) (all (leading p xs) h))
-          (cases-lt (leading p xs) (length xs))))
+      (λ k. both-ways _ (leading-end xs (leading p xs) refl k) (all (leading p xs) h))
+      (λ k. both-ways _ (ap p (getD-past xs (leading p xs) 0 k) ∙ z) (all (leading p xs) h))
+      (cases-lt (leading p xs) (length xs))))
       (λ h. h)
       (cases-lt (leading p xs) m)
 
@@ -103,11 +103,13 @@ found i n P e h =
 pub later : (i : ℕ) (P Q : ℕ → Type 0) → (Q 0 → ⊥) → ((k : ℕ) → P k → Q (suc k)) → ((k : ℕ) → Q (suc k) → P k) → (o : Option ℕ) → FindsFrom (i + 1) P o → FindsFrom i Q o
 later i P Q none to from None h = λ k q. elim k as (λ m. Q m → ⊥) [ zero ↦ none | suc m ↦ λ r. h m (from m r) ] q
 later i P Q none to from (Some k) h =
-    let s : k - i ≡ suc (k - (i + 1)) = omega (arith, h .0) in
-    (omega (arith, h .0), subst (First Q) (sym s) (record {
-      here = to _ (h .1 .here);
-      earlier = λ j l q. elim j as (λ m. m < suc (k - (i + 1)) → Q m → ⊥) [ zero ↦ λ _. none | suc m ↦ λ l r. h .1 .earlier m (omega arith) (from m r) ] l q;
-    }))
+    let s : k - i ≡ suc (k - (i + 1)) = omega (arith, h .0) in (
+      omega (arith, h .0),
+      subst (First Q) (sym s) (record {
+        here = to _ (h .1 .here);
+        earlier = λ j l q. elim j as (λ m. m < suc (k - (i + 1)) → Q m → ⊥) [ zero ↦ λ _. none | suc m ↦ λ l r. h .1 .earlier m (omega arith) (from m r) ] l q;
+      }),
+    )
 
 finds-row : (i : ℕ) (bs : List ℕ) → FindsFrom i (Long-from bs) (longPart i bs)
 finds-row i [] = λ k h. omega (arith, leading-le-length letter (drop {A = ℕ} k []), length-drop {A = ℕ} k [])
@@ -126,9 +128,9 @@ both line (Some m) h =
     cond-both (ltb 1024 (length line)) (Some 1024) None (λ q. Finds (Long-at line) (earlier (Some m) q))
     (λ e. record {
       here = ⊎-elim
-        (λ l. let q : min m 1024 ≡ 1024 = omega arith in inr (q, ltb-true 1024 (length line) e))
-        (λ l. let q : min m 1024 ≡ m = omega arith in inl (subst (Row-at line) (sym q) (long-row line m (h .here))))
-        (cases-lt 1024 m);
+          (λ l. let q : min m 1024 ≡ 1024 = omega arith in inr (q, ltb-true 1024 (length line) e))
+          (λ l. let q : min m 1024 ≡ m = omega arith in inl (subst (Row-at line) (sym q) (long-row line m (h .here))))
+          (cases-lt 1024 m);
       earlier = λ j l x. ⊎-elim (λ r. h .earlier j (omega arith) (row-long line j r)) (λ q. omega (arith, q .0)) x;
     })
     (λ e. record {

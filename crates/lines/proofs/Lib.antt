@@ -7,6 +7,6 @@ mod Pairing
 mod Parts
 mod Places
 mod Readings
-mod Runs
-mod Says
+pub mod Runs
+pub mod Says
 mod Written

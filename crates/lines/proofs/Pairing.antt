@@ -90,12 +90,12 @@ finds-off n d i (b ∷ bs) e =
     cond-both (eqb b 40) Open _ P
     (λ h. on d (d + 1) b bs (omega (arith, one-yes 40 b h, one-no 41 b (ne-eqb b 41 (λ q. omega (arith, eqb-true b 40 h))))) i _ (rec (d + 1)))
     (λ n40. cond-both (eqb b 41) Close _ P
-      (λ h. cond-both (eqb d 0) (Err i) (Ok (d - 1)) (λ r. FindsFrom i (Off d (b ∷ bs)) (stillOpen n (onOk r (λ t. run deeper t ts))))
-        (λ z. found i i (Off d (b ∷ bs)) refl (inl (omega (arith, one-no 40 b n40, one-yes 41 b h, eqb-true d 0 z, opened-cons b [], closed-cons b []))))
-        (λ z. on d (d - 1) b bs (omega (arith, one-no 40 b n40, one-yes 41 b h, positive d z)) i _ (rec (d - 1))))
-      (λ n41. let plain : FindsFrom i (Off d (b ∷ bs)) (stillOpen n (run deeper d ts)) = on d d b bs (omega (arith, one-no 40 b n40, one-no 41 b n41)) i _ (rec d) in
-        cond-both (eqb b 32) Blank _ P (λ _. plain) (λ _. cond-both (eqb b 10) LineEnd _ P (λ _. plain) (λ _. cond-both (leb 33 b && leb b 126) Letter Foreign P
-        (λ _. subst (λ r. FindsFrom i (Off d (b ∷ bs)) (stillOpen n r)) (sym (joined-runs d i (i + 1) ts)) plain) (λ _. plain)))))
+    (λ h. cond-both (eqb d 0) (Err i) (Ok (d - 1)) (λ r. FindsFrom i (Off d (b ∷ bs)) (stillOpen n (onOk r (λ t. run deeper t ts))))
+    (λ z. found i i (Off d (b ∷ bs)) refl (inl (omega (arith, one-no 40 b n40, one-yes 41 b h, eqb-true d 0 z, opened-cons b [], closed-cons b []))))
+    (λ z. on d (d - 1) b bs (omega (arith, one-no 40 b n40, one-yes 41 b h, positive d z)) i _ (rec (d - 1))))
+    (λ n41. let plain : FindsFrom i (Off d (b ∷ bs)) (stillOpen n (run deeper d ts)) = on d d b bs (omega (arith, one-no 40 b n40, one-no 41 b n41)) i _ (rec d) in
+    cond-both (eqb b 32) Blank _ P (λ _. plain) (λ _. cond-both (eqb b 10) LineEnd _ P (λ _. plain) (λ _. cond-both (leb 33 b && leb b 126) Letter Foreign P
+    (λ _. subst (λ r. FindsFrom i (Off d (b ∷ bs)) (stillOpen n r)) (sym (joined-runs d i (i + 1) ts)) plain) (λ _. plain)))))
 
 pub finds-unpaired : (line : List ℕ) → Finds (Unpaired-at line) (unpairedAt (length line) (tokensFrom 0 line))
 finds-unpaired line =

@@ -23,6 +23,7 @@ use Rattle.lines.specs.declared.fault.Stop.{Stop}
 use Rattle.lines.specs.declared.reader.Span.{Span}
 use Rattle.lines.specs.declared.reader.Token.{Token}
 use Rattle.lines.specs.declared.reader.Token.the-variants.{Opening, Closing, Part}
+use Rattle.lines.specs.declared.shape.Ahead.{Ahead}
 use Rattle.lines.specs.declared.shape.Allowed.{Allowed}
 use Rattle.lines.specs.declared.shape.Head.{Head}
 use Rattle.lines.specs.declared.shape.Head.the-variants.{Top, Rule, Lex, Scale, Ladder, Say}
@@ -44,9 +45,10 @@ joined-stands n s e [] h k a = (record { some = h; inside = k }, tt)
 joined-stands n s e (Opening at ∷ ts) h k a = (record { some = h; inside = k }, a)
 joined-stands n s e (Closing at ∷ ts) h k a = (record { some = h; inside = k }, a)
 joined-stands n s e (Part p ∷ ts) h k a =
-    elim (eqb (p .start) e) as (λ t. eqb (p .start) e ≡ t → All (Stands n) (cond t (partAt s (p .end) ∷ ts) (partAt s e ∷ Part p ∷ ts)))
-    [ true ↦ λ q. (record { some = omega (arith, a .0 .some, eqb-true (p .start) e q); inside = a .0 .inside }, a .1)
-    | false ↦ λ _. (record { some = h; inside = k }, a) ]
+    elim (eqb (p .start) e) as (λ t. eqb (p .start) e ≡ t → All (Stands n) (cond t (partAt s (p .end) ∷ ts) (partAt s e ∷ Part p ∷ ts))) [
+      | true ↦ λ q. (record { some = omega (arith, a .0 .some, eqb-true (p .start) e q); inside = a .0 .inside }, a .1)
+      | false ↦ λ _. (record { some = h; inside = k }, a)
+    ]
     refl
 
 before-stands : (n i : ℕ) (c : Class) (ts : List Token) → i < n → All (Stands n) ts → All (Stands n) (before i c ts)
@@ -80,7 +82,7 @@ rest-stands : (n : ℕ) (ts : List Token) → All (Stands n) ts → All (Stands 
 rest-stands n [] a = tt
 rest-stands n (t ∷ ts) a = a .1
 
-next : {X : Type 0} (n : ℕ) (f : Option Token → Result X Misfit) (ts : List Token) → All (Stands n) ts → made (taken f ts) (Left n Any)
+next : {X : Type 0} (n : ℕ) (f : Ahead → Result X Misfit) (ts : List Token) → All (Stands n) ts → made (taken f ts) (Left n Any)
 next n f ts a = then Any (Left n Any) (f (first ts)) (λ x. Ok (x, rest ts)) (any (f (first ts))) (λ x _. (tt, rest-stands n ts a))
 
 part : (n : ℕ) (ts : List Token) → All (Stands n) ts → made (taken asPart ts) (Left n (Lies n))
@@ -123,7 +125,7 @@ module _ (n : ℕ) where
   on-part : (ts : List Token) (f : Span × List Token → Parsed (Reading Span)) → All (Stands n) ts → ((p : Span × List Token) → Left n (Lies n) p → Made (f p)) → Made (onOk (taken asPart ts) f)
   on-part ts f a g = then (Left n (Lies n)) (Left n (In n)) (taken asPart ts) f (part n ts a) g
 
-  on-next : {X : Type 0} (t : Option Token → Result X Misfit) (ts : List Token) (f : X × List Token → Parsed (Reading Span)) → All (Stands n) ts → ((p : X × List Token) → All (Stands n) (p .1) → Made (f p)) → Made (onOk (taken t ts) f)
+  on-next : {X : Type 0} (t : Ahead → Result X Misfit) (ts : List Token) (f : X × List Token → Parsed (Reading Span)) → All (Stands n) ts → ((p : X × List Token) → All (Stands n) (p .1) → Made (f p)) → Made (onOk (taken t ts) f)
   on-next t ts f a g = then (Left n Any) (Left n (In n)) (taken t ts) f (next n t ts a) (λ p h. g p (h .1))
 
   top-in : (ts : List Token) → All (Stands n) ts → Made (topOf ts)

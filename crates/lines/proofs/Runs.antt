@@ -1,19 +1,12 @@
 -- A loop that runs a machine over a list: one turn, a stop, and the end.
-use mathlib.Core.Path.{_≡_, refl, sym, ap, subst, _∙_}
-use mathlib.Core.List.{List, [], _∷_}
+use mathlib.Core.Path.{_≡_, sym, ap, _∙_}
+use mathlib.Core.List.{List}
 use Prim.Native.Nat.{ℕ, _+_, _≤_, _<_}
-use native.Mathlib.Omega.{arith}
 use lib.ListN.{length, getD, drop}
 use Rattle.std.proofs.shelf.Lists.{at-drop-more, at-drop-all}
 use Rattle.std.specs.declared.result.Result.{Result}
 use Rattle.std.specs.declared.result.Result.the-variants.{Ok, Err}
 use Rattle.lines.specs.Run.{run, onOk}
-
-pub same-ok : {S E : Type 0} {s t : S} → _≡_ {A = Result S E} (Ok s) (Ok t) → s ≡ t
-same-ok h = cc
-
-pub ok-not-err : {S E : Type 0} {s : S} {e : E} → _≡_ {A = Result S E} (Ok s) (Err e) → ⊥
-ok-not-err h = let z : _≡_ {A = ℕ} 0 1 = cc in omega arith
 
 module _ {S X E : Type 0} (f : S → X → Result S E) (xs : List X) (i : ℕ) (d : X) (s : S) {r : Result S E} where
   turn : i < length xs → run f s (drop i xs) ≡ r → onOk (f s (getD xs i d)) (λ t. run f t (drop (i + 1) xs)) ≡ r

@@ -14,6 +14,8 @@ use Rattle.std.specs.declared.result.Result.the-variants.{Ok, Err}
 use Rattle.lines.specs.declared.reader.Span.{Span}
 use Rattle.lines.specs.declared.reader.Token.{Token}
 use Rattle.lines.specs.declared.reader.Token.the-variants.{Opening, Closing, Part}
+use Rattle.lines.specs.declared.shape.Ahead.{Ahead}
+use Rattle.lines.specs.declared.shape.Ahead.the-variants.{Opens, Closes, Has, End}
 use Rattle.lines.specs.declared.shape.Allowed.{Allowed}
 use Rattle.lines.specs.declared.shape.Head.{Head}
 use Rattle.lines.specs.declared.shape.Head.the-variants.{Top, Rule, Lex, Scale, Ladder, Say}
@@ -60,51 +62,54 @@ stillOpen n (Err at) = Some at
 abbrev pub unpairedAt : ℕ → List Token → Option ℕ
 unpairedAt n ts = stillOpen n (run deeper 0 ts)
 
-abbrev pub first : List Token → Option Token
-first [] = None
-first (t ∷ ts) = Some t
+-- what comes next: a token, or the end of the line
+abbrev pub first : List Token → Ahead
+first [] = End
+first (Opening at ∷ ts) = Opens at
+first (Closing at ∷ ts) = Closes at
+first (Part s ∷ ts) = Has s
 
 abbrev pub rest : List Token → List Token
 rest [] = []
 rest (t ∷ ts) = ts
 
--- what the next token is read as. A part or an opening bracket is missing where a closing bracket or the end comes
-abbrev pub asOpening : Option Token → Result (Unit {0}) Misfit
-asOpening (Some (Opening at)) = Ok tt
-asOpening (Some (Closing at)) = Err Missing
-asOpening (Some (Part s)) = Err (At (s .start))
-asOpening None = Err Missing
+-- what comes next as what is wanted there. A part or an opening bracket is missing where a closing bracket or the end comes
+abbrev pub asOpening : Ahead → Result (Unit {0}) Misfit
+asOpening (Opens at) = Ok tt
+asOpening (Closes at) = Err Missing
+asOpening (Has s) = Err (At (s .start))
+asOpening End = Err Missing
 
-abbrev pub asClosing : Option Token → Result (Unit {0}) Misfit
-asClosing (Some (Opening at)) = Err (At at)
-asClosing (Some (Closing at)) = Ok tt
-asClosing (Some (Part s)) = Err (At (s .start))
-asClosing None = Err Missing
+abbrev pub asClosing : Ahead → Result (Unit {0}) Misfit
+asClosing (Opens at) = Err (At at)
+asClosing (Closes at) = Ok tt
+asClosing (Has s) = Err (At (s .start))
+asClosing End = Err Missing
 
-abbrev pub asEnd : Option Token → Result (Unit {0}) Misfit
-asEnd (Some (Opening at)) = Err (At at)
-asEnd (Some (Closing at)) = Err (At at)
-asEnd (Some (Part s)) = Err (At (s .start))
-asEnd None = Ok tt
+abbrev pub asEnd : Ahead → Result (Unit {0}) Misfit
+asEnd (Opens at) = Err (At at)
+asEnd (Closes at) = Err (At at)
+asEnd (Has s) = Err (At (s .start))
+asEnd End = Ok tt
 
-abbrev pub asPart : Option Token → Result Span Misfit
-asPart (Some (Opening at)) = Err (At at)
-asPart (Some (Closing at)) = Err Missing
-asPart (Some (Part s)) = Ok s
-asPart None = Err Missing
+abbrev pub asPart : Ahead → Result Span Misfit
+asPart (Opens at) = Err (At at)
+asPart (Closes at) = Err Missing
+asPart (Has s) = Ok s
+asPart End = Err Missing
 
 -- one more part, or the closing bracket
-abbrev pub asMore : Option Token → Result (Option Span) Misfit
-asMore (Some (Opening at)) = Err (At at)
-asMore (Some (Closing at)) = Ok None
-asMore (Some (Part s)) = Ok (Some s)
-asMore None = Err Missing
+abbrev pub asMore : Ahead → Result (Option Span) Misfit
+asMore (Opens at) = Err (At at)
+asMore (Closes at) = Ok None
+asMore (Has s) = Ok (Some s)
+asMore End = Err Missing
 
 -- the answer and the tokens that are left, or a misfit
 abbrev pub Parsed : Type 0 → Type 0
 Parsed X = Result (X × List Token) Misfit
 
-abbrev pub taken : {X : Type 0} → (Option Token → Result X Misfit) → List Token → Parsed X
+abbrev pub taken : {X : Type 0} → (Ahead → Result X Misfit) → List Token → Parsed X
 taken f ts = onOk (f (first ts)) (λ x. Ok (x, rest ts))
 
 abbrev pub left : Cursor → List Token

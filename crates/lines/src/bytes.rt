@@ -8,6 +8,7 @@ ghost use Rattle.lines.specs.Bytes.{classOf, inLine, own, letter, foreignAt, c
 
 // The most bytes of a part, and of a line.
 const PART: usize = 16;
+
 const LINE: usize = 1024;
 
 #[derive(Clone, Copy)]

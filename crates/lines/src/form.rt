@@ -14,24 +14,37 @@ use crate::fault::StopFromLineFault;
 use crate::fault::StopFromRefused;
 use crate::number::number_of;
 use crate::reader::Span;
-use crate::reader::SpanDebug;
 use crate::reader::Token;
 use crate::shape::Allowed;
 use crate::shape::Misfit;
 use crate::shape::ScaleName;
-use crate::shape::ScaleNameDebug;
 use crate::shape::Shape;
 use crate::shape::shape_of;
 use refusals::Refusal;
 use std::alloc::Global;
 
 // What a line says. Names are places in the line.
-#[derive(Drop, Debug)]
+#[derive(Drop)]
 pub enum Form {
-    Top { category: Span },
-    Chain { weight: u16, category: Span, part: Span },
-    Binary { weight: u16, category: Span, left: Span, right: Span },
-    Lexical { weight: u16, category: Span, word: Span },
+    Top {
+        category: Span,
+    },
+    Chain {
+        weight: u16,
+        category: Span,
+        part: Span,
+    },
+    Binary {
+        weight: u16,
+        category: Span,
+        left: Span,
+        right: Span,
+    },
+    Lexical {
+        weight: u16,
+        category: Span,
+        word: Span,
+    },
     Scale(ScaleName),
     Ladder(Vec<u16>),
     Say(Vec<Span>),
@@ -42,11 +55,20 @@ pub fn fault_at(refusal: Refusal, at: usize) -> LineFault
     requires { ⌜ at + 1 < 2 ^ 64 ⌝ }
     ensures { λ r. ⌜ r ≡ faultAt refusal at ⌝ }
 {
-    LineFault { refusal, byte: at + 1 }
+    LineFault {
+        refusal,
+        byte: at + 1,
+    }
 }
 
 // The shape of a line that ends at `end`, or the fault of its form.
-pub fn fitted_shape(heap: Global, allowed: Allowed, line: &[u8], tokens: &[Token], end: u16) -> Result<Shape, Stop<LineFault>>
+pub fn fitted_shape(
+    heap: Global,
+    allowed: Allowed,
+    line: &[u8],
+    tokens: &[Token],
+    end: u16,
+) -> Result<Shape, Stop<LineFault>>
     ensures { λ r. ⌜ Says outline r (fitted end (shapeOf allowed (now (line .entry)) (now (tokens .entry)))) ⌝ }
 {
     let at = match shape_of(heap, allowed, line, tokens) {
@@ -89,13 +111,41 @@ fn numbers_at(heap: Global, line: &[u8], spans: &[Span]) -> Result<Vec<u16>, Sto
 pub fn form_of(heap: Global, line: &[u8], shape: Shape) -> Result<Form, Stop<LineFault>>
     ensures { λ r. ⌜ Says shown r (valued (now (line .entry)) (outline shape)) ⌝ }
 {
-    Ok(match shape {
-        Shape::Top { category } => Form::Top { category },
-        Shape::Chain { weight, category, part } => Form::Chain { weight: number_at(line, weight)?, category, part },
-        Shape::Binary { weight, category, left, right } => Form::Binary { weight: number_at(line, weight)?, category, left, right },
-        Shape::Lexical { weight, category, word } => Form::Lexical { weight: number_at(line, weight)?, category, word },
-        Shape::Scale(name) => Form::Scale(name),
-        Shape::Ladder(ceilings) => Form::Ladder(numbers_at(heap, line, &ceilings)?),
-        Shape::Say(words) => Form::Say(words),
-    })
+    Ok(
+        match shape {
+            Shape::Top { category } => Form::Top { category },
+            Shape::Chain {
+                weight,
+                category,
+                part,
+            } => Form::Chain {
+                weight: number_at(line, weight)?,
+                category,
+                part,
+            },
+            Shape::Binary {
+                weight,
+                category,
+                left,
+                right,
+            } => Form::Binary {
+                weight: number_at(line, weight)?,
+                category,
+                left,
+                right,
+            },
+            Shape::Lexical {
+                weight,
+                category,
+                word,
+            } => Form::Lexical {
+                weight: number_at(line, weight)?,
+                category,
+                word,
+            },
+            Shape::Scale(name) => Form::Scale(name),
+            Shape::Ladder(ceilings) => Form::Ladder(numbers_at(heap, line, &ceilings)?),
+            Shape::Say(words) => Form::Say(words),
+        },
+    )
 }

@@ -18,15 +18,8 @@ mod shape;
 mod tests;
 
 use bytes::foreign_at;
-use bytes::too_long_at;
-use form::fault_at;
-use form::fitted_shape;
-use form::form_of;
-use reader::Token;
-use reader::tokens;
-use shape::unpaired_at;
-
 pub use bytes::line_length;
+use bytes::too_long_at;
 pub use fault::LineFault;
 pub use fault::LineFaultDebug;
 pub use fault::LineFaultPartialEq;
@@ -35,14 +28,28 @@ pub use fault::StopFromAlloc;
 pub use fault::StopFromLineFault;
 pub use fault::StopFromRefused;
 pub use form::Form;
-pub use form::FormDebug;
+use form::fault_at;
+use form::fitted_shape;
+use form::form_of;
 pub use number::reads_decimal;
 pub use reader::Span;
+pub use reader::SpanDebug;
+pub use reader::SpanPartialEq;
+use reader::Token;
+use reader::tokens;
 pub use shape::Allowed;
 pub use shape::ScaleName;
+pub use shape::ScaleNameDebug;
+pub use shape::ScaleNamePartialEq;
+use shape::unpaired_at;
 
 // The form that the tokens of a line make, if there are any.
-fn tokens_form(heap: Global, line: &[u8], allowed: Allowed, tokens: &[Token]) -> Result<Option<Form>, Stop<LineFault>>
+fn tokens_form(
+    heap: Global,
+    line: &[u8],
+    allowed: Allowed,
+    tokens: &[Token],
+) -> Result<Option<Form>, Stop<LineFault>>
     requires { ⌜ length (now line) ≤ 1024 ⌝ }
     ensures { λ r. ⌜ Says shownIf r (tokensForm allowed (now (line .entry)) (now (tokens .entry))) ⌝ }
 {
@@ -60,7 +67,11 @@ fn tokens_form(heap: Global, line: &[u8], allowed: Allowed, tokens: &[Token]) ->
 
 // The form of a line, which is given without its line end; none where it is blank.
 // The heads that may stand there are those that `allowed` names.
-pub fn read_line(heap: Global, line: &[u8], allowed: Allowed) -> Result<Option<Form>, Stop<LineFault>>
+pub fn read_line(
+    heap: Global,
+    line: &[u8],
+    allowed: Allowed,
+) -> Result<Option<Form>, Stop<LineFault>>
     ensures says { λ r. ⌜ Says shownIf r (lineForm allowed (now (line .entry))) ⌝ }
     ensures inside { λ r. ⌜ made r (λ o. InsideIf (length (now (line .entry))) (shownIf o)) ⌝ }
 {

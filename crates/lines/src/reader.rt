@@ -93,7 +93,11 @@ impl Reader {
     fn finish(self) -> Result<Vec<Token>, AllocError>
         ensures { λ r. ⌜ made r (λ v. vec-items v ≡ sofar self .tokens ++ ended (self .state) (self .at)) ⌝ }
     {
-        let Reader { at, state, mut tokens } = self;
+        let Reader {
+            at,
+            state,
+            mut tokens,
+        } = self;
         if let State::Within { start } = state {
             tokens.push(Token::Part(Span { start, end: at }))?;
         }
@@ -106,7 +110,11 @@ pub fn tokens(heap: Global, line: &[u8]) -> Result<Vec<Token>, AllocError>
     requires { ⌜ length (now line) ≤ 1024 ⌝ }
     ensures { λ r. ⌜ made r (λ v. vec-items v ≡ tokensFrom 0 (now (line .entry))) ⌝ }
 {
-    let mut reader = Reader { at: 0, state: State::Between, tokens: Vec::new(heap) };
+    let mut reader = Reader {
+        at: 0,
+        state: State::Between,
+        tokens: Vec::new(heap),
+    };
     for b in line {
         reader.take(class_of(*b))?;
     }

@@ -24,7 +24,7 @@ pub enum ScaleName {
 }
 
 // Which heads may stand at a place; `say` always may.
-#[derive(Clone, Copy, PartialEq, Eq, Debug)]
+#[derive(Clone, Copy)]
 pub struct Allowed {
     // top, rule and lex
     pub grammar: bool,
@@ -40,6 +40,15 @@ pub enum Head {
     Scale,
     Ladder,
     Say,
+}
+
+// What comes next in a line: a token, or its end.
+#[derive(Clone, Copy)]
+pub enum Ahead {
+    Opens(u16),
+    Closes(u16),
+    Has(Span),
+    End,
 }
 
 // What does not fit the form of a line: the token at a place, or one that is missing.
@@ -60,10 +69,25 @@ pub impl From<Misfit> for Stop<Misfit> as StopFromMisfit {
 // What a line says, with its numbers as places in it.
 #[derive(Drop)]
 pub enum Shape {
-    Top { category: Span },
-    Chain { weight: Span, category: Span, part: Span },
-    Binary { weight: Span, category: Span, left: Span, right: Span },
-    Lexical { weight: Span, category: Span, word: Span },
+    Top {
+        category: Span,
+    },
+    Chain {
+        weight: Span,
+        category: Span,
+        part: Span,
+    },
+    Binary {
+        weight: Span,
+        category: Span,
+        left: Span,
+        right: Span,
+    },
+    Lexical {
+        weight: Span,
+        category: Span,
+        word: Span,
+    },
     Scale(ScaleName),
     Ladder(Vec<Span>),
     Say(Vec<Span>),
@@ -154,55 +178,65 @@ fn scale_named(span: Span, word: &[u8]) -> Result<ScaleName, Misfit>
     }
 }
 
-fn as_opening(token: Option<Token>) -> Result<(), Misfit>
-    ensures { λ r. ⌜ r ≡ asOpening token ⌝ }
+fn as_opening(ahead: Ahead) -> Result<(), Misfit>
+    ensures { λ r. ⌜ r ≡ asOpening ahead ⌝ }
 {
-    match token {
-        Some(Token::Opening { .. }) => Ok(()),
-        Some(Token::Part(span)) => Err(Misfit::At(span.start)),
-        Some(Token::Closing { .. }) | None => Err(Misfit::Missing),
+    match ahead {
+        Ahead::Opens(_) => Ok(()),
+        Ahead::Has(span) => Err(Misfit::At(span.start)),
+        Ahead::Closes(_) | Ahead::End => Err(Misfit::Missing),
     }
 }
 
-fn as_closing(token: Option<Token>) -> Result<(), Misfit>
-    ensures { λ r. ⌜ r ≡ asClosing token ⌝ }
+fn as_closing(ahead: Ahead) -> Result<(), Misfit>
+    ensures { λ r. ⌜ r ≡ asClosing ahead ⌝ }
 {
-    match token {
-        Some(Token::Closing { .. }) => Ok(()),
-        Some(Token::Opening { at }) => Err(Misfit::At(at)),
-        Some(Token::Part(span)) => Err(Misfit::At(span.start)),
-        None => Err(Misfit::Missing),
+    match ahead {
+        Ahead::Closes(_) => Ok(()),
+        Ahead::Opens(at) => Err(Misfit::At(at)),
+        Ahead::Has(span) => Err(Misfit::At(span.start)),
+        Ahead::End => Err(Misfit::Missing),
     }
 }
 
-fn as_end(token: Option<Token>) -> Result<(), Misfit>
-    ensures { λ r. ⌜ r ≡ asEnd token ⌝ }
+fn as_end(ahead: Ahead) -> Result<(), Misfit>
+    ensures { λ r. ⌜ r ≡ asEnd ahead ⌝ }
 {
-    match token {
-        None => Ok(()),
-        Some(Token::Opening { at } | Token::Closing { at }) => Err(Misfit::At(at)),
-        Some(Token::Part(span)) => Err(Misfit::At(span.start)),
+    match ahead {
+        Ahead::End => Ok(()),
+        Ahead::Opens(at) | Ahead::Closes(at) => Err(Misfit::At(at)),
+        Ahead::Has(span) => Err(Misfit::At(span.start)),
     }
 }
 
-fn as_part(token: Option<Token>) -> Result<Span, Misfit>
-    ensures { λ r. ⌜ r ≡ asPart token ⌝ }
+fn as_part(ahead: Ahead) -> Result<Span, Misfit>
+    ensures { λ r. ⌜ r ≡ asPart ahead ⌝ }
 {
-    match token {
-        Some(Token::Part(span)) => Ok(span),
-        Some(Token::Opening { at }) => Err(Misfit::At(at)),
-        Some(Token::Closing { .. }) | None => Err(Misfit::Missing),
+    match ahead {
+        Ahead::Has(span) => Ok(span),
+        Ahead::Opens(at) => Err(Misfit::At(at)),
+        Ahead::Closes(_) | Ahead::End => Err(Misfit::Missing),
     }
 }
 
-fn as_more(token: Option<Token>) -> Result<Option<Span>, Misfit>
-    ensures { λ r. ⌜ r ≡ asMore token ⌝ }
+fn as_more(ahead: Ahead) -> Result<Option<Span>, Misfit>
+    ensures { λ r. ⌜ r ≡ asMore ahead ⌝ }
+{
+    match ahead {
+        Ahead::Has(span) => Ok(Some(span)),
+        Ahead::Closes(_) => Ok(None),
+        Ahead::Opens(at) => Err(Misfit::At(at)),
+        Ahead::End => Err(Misfit::Missing),
+    }
+}
+
+fn as_ahead(token: Token) -> Ahead
+    ensures { λ r. ⌜ r ≡ first (token ∷ []) ⌝ }
 {
     match token {
-        Some(Token::Part(span)) => Ok(Some(span)),
-        Some(Token::Closing { .. }) => Ok(None),
-        Some(Token::Opening { at }) => Err(Misfit::At(at)),
-        None => Err(Misfit::Missing),
+        Token::Opening { at } => Ahead::Opens(at),
+        Token::Closing { at } => Ahead::Closes(at),
+        Token::Part(span) => Ahead::Has(span),
     }
 }
 
@@ -213,7 +247,7 @@ pub struct Cursor<'a> {
 }
 
 impl<'a> Cursor<'a> {
-    fn next(&mut self) -> Option<Token>
+    fn next(&mut self) -> Ahead
         ensures value { λ r. ⌜ r ≡ first (left (now (self .entry))) ⌝ }
         ensures after { λ _. ⌜ left (now (self .exit)) ≡ rest (left (now (self .entry))) ⌝ }
     {
@@ -221,9 +255,9 @@ impl<'a> Cursor<'a> {
             [token, rest @ ..] => {
                 let token = *token;
                 self.rest = rest;
-                Some(token)
+                as_ahead(token)
             }
-            [] => None,
+            [] => Ahead::End,
         }
     }
 
@@ -277,10 +311,19 @@ impl<'a> Cursor<'a> {
         let category = self.part()?;
         let left = self.part()?;
         let shape = match self.more()? {
-            None => Shape::Chain { weight, category, part: left },
+            None => Shape::Chain {
+                weight,
+                category,
+                part: left,
+            },
             Some(right) => {
                 self.closing()?;
-                Shape::Binary { weight, category, left, right }
+                Shape::Binary {
+                    weight,
+                    category,
+                    left,
+                    right,
+                }
             }
         };
         self.closing()?;
@@ -296,7 +339,11 @@ impl<'a> Cursor<'a> {
         let word = self.part()?;
         self.closing()?;
         self.closing()?;
-        Ok(Shape::Lexical { weight, category, word })
+        Ok(Shape::Lexical {
+            weight,
+            category,
+            word,
+        })
     }
 
     fn scale(&mut self, line: &[u8]) -> Result<Shape, Misfit>
@@ -322,19 +369,26 @@ impl<'a> Cursor<'a> {
     fn by_head(&mut self, heap: Global, line: &[u8], head: Head) -> Result<Shape, Stop<Misfit>>
         ensures { λ r. ⌜ Says (λ s. (outline s, left (now (self .exit)))) r (byHead (now (line .entry)) (left (now (self .entry))) head) ⌝ }
     {
-        Ok(match head {
-            Head::Top => self.top()?,
-            Head::Rule => self.rule()?,
-            Head::Lex => self.lexical()?,
-            Head::Scale => self.scale(line)?,
-            Head::Ladder => Shape::Ladder(self.parts(heap)?),
-            Head::Say => Shape::Say(self.parts(heap)?),
-        })
+        Ok(
+            match head {
+                Head::Top => self.top()?,
+                Head::Rule => self.rule()?,
+                Head::Lex => self.lexical()?,
+                Head::Scale => self.scale(line)?,
+                Head::Ladder => Shape::Ladder(self.parts(heap)?),
+                Head::Say => Shape::Say(self.parts(heap)?),
+            },
+        )
     }
 }
 
 // The shape that the tokens of a line make.
-pub fn shape_of(heap: Global, allowed: Allowed, line: &[u8], tokens: &[Token]) -> Result<Shape, Stop<Misfit>>
+pub fn shape_of(
+    heap: Global,
+    allowed: Allowed,
+    line: &[u8],
+    tokens: &[Token],
+) -> Result<Shape, Stop<Misfit>>
     ensures { λ r. ⌜ Says outline r (shapeOf allowed (now (line .entry)) (now (tokens .entry))) ⌝ }
 {
     let mut cursor = Cursor { rest: tokens };

@@ -19,7 +19,10 @@ fn main(rt: LibcRuntime) -> io::Result<()> {
     let mut text = read_input(&rt)?;
     if text.len() > MOST {
         text.truncate(MOST);
-        eprintln!(rt, "parser: the input has more than 65536 bytes; the rest is not read")?;
+        eprintln!(
+            rt,
+            "parser: the input has more than 65536 bytes; the rest is not read"
+        )?;
     }
     let out = answers(rt.alloc(), text.as_slice())?;
     rt.stdout().write_all(out.as_slice())

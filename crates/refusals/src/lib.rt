@@ -68,7 +68,8 @@ impl Refusal {
         match self {
             Refusal::ForeignByte | Refusal::TooLong => Layer::Text,
             Refusal::Unpaired | Refusal::WrongForm | Refusal::WrongNumber => Layer::Form,
-            Refusal::GrammarFull | Refusal::Duplicate | Refusal::SelfChain | Refusal::WrongTop => Layer::Grammar,
+            Refusal::GrammarFull | Refusal::Duplicate | Refusal::SelfChain | Refusal::WrongTop =>
+                Layer::Grammar,
             _ => Layer::Call,
         }
     }

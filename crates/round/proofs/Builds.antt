@@ -1,10 +1,9 @@
 -- What the rules make of costs that are reached is reached.
-use mathlib.Core.Path.{_≡_, refl, sym, ap, ap₂, subst, subst₂, _∙_}
+use mathlib.Core.Path.{_≡_, refl, sym, ap, ap₂, subst, subst₂}
 use mathlib.Core.List.{List}
-use Prim.Native.Nat.{ℕ, _+_, _-_, _<_, _≤_}
+use Prim.Native.Nat.{ℕ, _+_, _-_}
 use lib.ListN.{length}
 use Rattle.std.specs.declared.option.Option.{Option}
-use Rattle.std.specs.declared.option.Option.the-variants.{Some, None}
 use Rattle.derivation.specs.Grammar.{Grammar}
 use Rattle.derivation.specs.Scale.{Scale}
 use Rattle.derivation.specs.Derivation.{Derivation, cost}

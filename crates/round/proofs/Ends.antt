@@ -1,23 +1,22 @@
 -- What a round leaves.
-use mathlib.Core.Path.{_≡_, refl, sym, ap, subst, _∙_}
-use mathlib.Core.Bool.{true, false}
-use mathlib.Core.Logic.{_⊎_, inl, inr, ⊎-elim}
+use mathlib.Core.Path.{_≡_, sym, subst, _∙_}
+use mathlib.Core.Bool.{true}
+use mathlib.Core.Logic.{⊎-elim}
 use mathlib.Core.List.{List}
-use Prim.Native.Nat.{ℕ, _*_, _<_, _≤_}
+use Prim.Native.Nat.{ℕ, _*_}
 use native.Mathlib.Omega.{arith}
-use lib.ListN.{length, getD}
+use lib.ListN.{length}
 use Rattle.std.specs.declared.option.Option.{Option}
 use Rattle.derivation.specs.Grammar.{Grammar}
 use Rattle.derivation.specs.Scale.{Scale, Lawful, Within}
-use Rattle.derivation.specs.Derivation.{Derivation, cost}
+use Rattle.derivation.specs.Derivation.{cost}
 use Rattle.derivation.specs.Bounds.{Entries, Filled}
-use Rattle.derivation.specs.Passing.{Passes}
 use Rattle.derivation.specs.Table.{Closed, Reached}
 use Rattle.derivation.proofs.Laws.{not-both}
 use Rattle.derivation.proofs.Table.{covers, found}
 use Rattle.chart.specs.Meaning.{Seen, Inside}
 use Rattle.chart.specs.Triangle.{tri}
-use Rattle.table.specs.Memory.{slot, view, Moved, Alike, Framed, Cleared}
+use Rattle.table.specs.Memory.{slot, view, Moved, Framed, Cleared}
 use Rattle.table.proofs.Slots.{slot-below, slot-apart}
 use Rattle.table.proofs.Views.{view-true, view-held, held-same, alike-then, moved-then}
 use Rattle.round.specs.Filling.{Spread}
@@ -46,21 +45,21 @@ module _ {Cost : Type 0} {s : Scale Cost} (lawful : Lawful s) (g : Grammar) (ent
         words = words-is;
         categories = categories-is;
         passing = λ A b e deriv pass.
-          let (x, is, low) = found (view d kinds chart after A b e) (covers lawful closed deriv pass) in
-          view-held d kinds chart after A b e x is .0;
+            let (x, is, low) = found (view d kinds chart after A b e) (covers lawful closed deriv pass) in
+            view-held d kinds chart after A b e x is .0;
         kept = λ A b e held.
-          let is = view-true d kinds chart after A b e held in
-          let (deriv, costs, pass) = reached .by A b e _ is in
-          record { tree = deriv; costs = costs; passes = pass; least = λ f pf. subst (λ o. Filled o (λ x. Within s x (cost s f))) is (covers lawful closed f pf) };
+            let is = view-true d kinds chart after A b e held in
+            let (deriv, costs, pass) = reached .by A b e _ is in
+            record { tree = deriv; costs = costs; passes = pass; least = λ f pf. subst (λ o. Filled o (λ x. Within s x (cost s f))) is (covers lawful closed f pf) };
         blank = λ A b e inside free. ⊎-elim
-          (λ same. same ∙ cleared .first (slot kinds b e A) (slot-below n kinds b e A inside))
-          (λ at.
+            (λ same. same ∙ cleared .first (slot kinds b e A) (slot-below n kinds b e A inside))
+            (λ at.
             let q = slot-apart n kinds b e A (at .0) (at .1) (at .2) inside (at .3) (at .4) in
             let there : chart .holds b e A ≡ true = subst (λ k. chart .holds b e k ≡ true) (sym (q .2)) (subst (λ k. chart .holds b k (at .2) ≡ true) (sym (q .1)) (subst (λ k. chart .holds k (at .1) (at .2) ≡ true) (sym (q .0)) (at .5))) in
             absurd (not-both there free))
-          (moved .same (slot kinds b e A));
+            (moved .same (slot kinds b e A));
         rest = λ k past. ⊎-elim
-          (λ same. same ∙ cleared .rest k past)
-          (λ at. let low = slot-below n kinds (at .0) (at .1) (at .2) (at .3) in let is = at .4 in absurd (omega arith))
-          (moved .same k);
+            (λ same. same ∙ cleared .rest k past)
+            (λ at. let low = slot-below n kinds (at .0) (at .1) (at .2) (at .3) in let is = at .4 in absurd (omega arith))
+            (moved .same k);
       }

@@ -1,5 +1,5 @@
 -- The cells that are filled so far.
-use mathlib.Core.Path.{_≡_, refl, sym, ap, subst, subst₂, _∙_}
+use mathlib.Core.Path.{_≡_, sym, subst, subst₂, _∙_}
 use mathlib.Core.Logic.{_⊎_, inl, inr}
 use mathlib.Core.List.{List}
 use Prim.Native.Nat.{ℕ, _+_, _-_, _<_, _≤_}
@@ -9,18 +9,18 @@ use Rattle.std.proofs.shelf.Tests.{cases-eq}
 use Rattle.std.specs.declared.option.Option.{Option}
 use Rattle.std.specs.declared.option.Option.the-variants.{Some, None}
 use Rattle.derivation.specs.Grammar.{Grammar}
-use Rattle.derivation.specs.Scale.{Scale, Lawful, Within}
+use Rattle.derivation.specs.Scale.{Scale, Within}
 use Rattle.derivation.specs.Bounds.{Entries, Filled}
-use Rattle.derivation.specs.Table.{Table, ClosedAt, Closed, Reached}
+use Rattle.derivation.specs.Table.{Table, ClosedAt, Closed}
 use Rattle.table.proofs.Growing.{none-some}
-use Rattle.cell.specs.Cell.{Made, Closes}
+use Rattle.cell.specs.Cell.{Closes}
 use Rattle.round.specs.Filling.{Late, Sofar}
 use Rattle.round.proofs.Builds.{Found, build}
 
 cases-span : (x y b e : ℕ) → ((x ≡ b) × (y ≡ e)) ⊎ (x ≡ b → y ≡ e → ⊥)
 cases-span x y b e =
     elim (cases-eq x b) [
-        inl p ↦ elim (cases-eq y e) [ inl q ↦ inl (p, q) | inr n ↦ inr (λ _ q. n q) ]
+      | inl p ↦ elim (cases-eq y e) [ inl q ↦ inl (p, q) | inr n ↦ inr (λ _ q. n q) ]
       | inr n ↦ inr (λ p _. n p)
     ]
 
@@ -45,23 +45,20 @@ module _ {Cost : Type 0} {s : Scale Cost} {g : Grammar} {entry : Entries Cost} {
     reached = f .reached;
     rest = λ A x y n. f .rest A x y (λ l. n (from x y l));
   } where
-      to : (x y : ℕ) → Late (e + 1) 0 x y → Late e e x y
-      to x y l =
-          let a = l .first in
-          let o = l .order in
-          let c = l .column in
-          let below : y ≤ e = elim (cases-eq y (e + 1)) [ inl q ↦ let b = l .back q in omega arith | inr n ↦ omega (arith, n) ] in
-          record { first = a; order = o; column = below; back = λ _. omega arith }
-      from : (x y : ℕ) → Late e e x y → Late (e + 1) 0 x y
-      from x y l =
-          let a = l .first in
-          let o = l .order in
-          let c = l .column in
-          record { first = a; order = o; column = omega arith; back = λ q. omega arith }
+    to : (x y : ℕ) → Late (e + 1) 0 x y → Late e e x y
+    to x y l =
+        let a = l .first in
+        let o = l .order in
+        let c = l .column in
+        let below : y ≤ e = elim (cases-eq y (e + 1)) [ inl q ↦ let b = l .back q in omega arith | inr n ↦ omega (arith, n) ] in
+        record { first = a; order = o; column = below; back = λ _. omega arith }
 
-  -- the cell that comes next is empty
-  pub sofar-blank : (v : Table Cost) (e k : ℕ) → k < e → Sofar s g entry ceiling ws v e k → (A : ℕ) → v A (e - k) e ≡ None
-  sofar-blank v e k less f A = f .rest A (e - k) e (λ l. let b = l .back refl in omega arith)
+    from : (x y : ℕ) → Late e e x y → Late (e + 1) 0 x y
+    from x y l =
+        let a = l .first in
+        let o = l .order in
+        let c = l .column in
+        record { first = a; order = o; column = omega arith; back = λ q. omega arith }
 
   module _ (v v′ : Table Cost) (e k : ℕ) (before : k < e) (f : Sofar s g entry ceiling ws v e k) (c : Closes s g entry ceiling ws v v′ (e - k) e) where
     earlier : (x y : ℕ) → Late e (k + 1) x y → (x ≡ e - k → y ≡ e → ⊥) → Late e k x y
@@ -76,18 +73,20 @@ module _ {Cost : Type 0} {s : Scale Cost} {g : Grammar} {entry : Entries Cost} {
     pub sofar-step : Sofar s g entry ceiling ws v′ e (k + 1)
     sofar-step = record {
       closed = λ x y l. elim (cases-span x y (e - k) e) [
-          inl q ↦ subst₂ (λ (u w : ℕ). ClosedAt s g entry ceiling ws v′ u w) (sym (q .0)) (sym (q .1)) (c .closed)
+        | inl q ↦ subst₂ (λ (u w : ℕ). ClosedAt s g entry ceiling ws v′ u w) (sym (q .0)) (sym (q .1)) (c .closed)
         | inr n ↦
             let col = l .column in
             let at = l .back in
             closed-moves v′ x y (λ A. c .elsewhere A x y n) (λ A m low high. c .elsewhere A x m (λ _ q. omega arith)) (λ A m low high. c .elsewhere A (m + 1) y (λ p q. let b = at q in omega arith)) (f .closed x y (earlier x y l n))
       ];
-      reached = record { by = λ A x y z is. elim (cases-span x y (e - k) e) [
-          inl q ↦
-            let there : v′ A (e - k) e ≡ Some z = subst₂ (λ (u w : ℕ). v′ A u w ≡ Some z) (q .0) (q .1) is in
-            subst₂ (λ (u w : ℕ). Found s g entry ceiling ws A u w z) (sym (q .0)) (sym (q .1)) (build (f .reached) (c .made A z there))
-        | inr n ↦ f .reached .by A x y z (sym (c .elsewhere A x y n) ∙ is)
-      ] };
+      reached = record {
+        by = λ A x y z is. elim (cases-span x y (e - k) e) [
+          | inl q ↦
+              let there : v′ A (e - k) e ≡ Some z = subst₂ (λ (u w : ℕ). v′ A u w ≡ Some z) (q .0) (q .1) is in
+              subst₂ (λ (u w : ℕ). Found s g entry ceiling ws A u w z) (sym (q .0)) (sym (q .1)) (build (f .reached) (c .made A z there))
+          | inr n ↦ f .reached .by A x y z (sym (c .elsewhere A x y n) ∙ is)
+        ];
+      };
       rest = λ A x y n. c .elsewhere A x y (λ p q. n (now-late x y p q)) ∙ f .rest A x y (λ l. n (later x y l));
     }
 

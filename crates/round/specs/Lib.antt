@@ -1,3 +1,4 @@
 pub mod Counting
 pub mod Filling
+pub mod Recogniser
 pub mod Round

@@ -36,24 +36,26 @@ module _ {Cost : Type 0} {s : Scale Cost} {g : Grammar} {entry : Entries Cost} {
   reached = record { by = λ A b e x is. let k = kept-in is in (k .tree, k .costs, k .passes) }
 
   pub closed : Closed s g entry ceiling ws (view (s .neutral) (g .categories) chart after)
-  closed = record { at = λ b e first order last. record {
-    words = λ k i r at here bi ei fine.
-      let n = length ws in
-      let v = view (s .neutral) (g .categories) chart after in
-      let P : ℕ → ℕ → Type 0 = λ b e. Admits s ceiling (entry (r .category) (b - 1) (n - e)) (s .price (r .weight)) → Filled (v (r .category) b e) (λ x. Within s x (s .price (r .weight))) in
-      let base : P (i + 1) (i + 1) = λ ok. taken (word r at here) ok in
-      subst₂ P (sym bi) (sym ei) base fine;
-    chains = λ k r x at is fine.
-      let d = kept-in is in
-      let q = s .price (r .weight) in
-      let same : s .join q (cost s (d .tree)) ≡ s .join q x = ap (s .join q) (d .costs) in
-      let ok = subst (λ c. Admits s ceiling (entry (r .category) (b - 1) (length ws - e)) c) (sym same) fine in
-      subst (λ c. Filled (view (s .neutral) (g .categories) chart after (r .category) b e) (λ y. Within s y c)) same (taken (chain r at (d .tree)) (ok, d .passes));
-    binaries = λ k m r x y at low high is-x is-y fine.
-      let d = kept-in is-x in
-      let f = kept-in is-y in
-      let q = s .price (r .weight) in
-      let same : s .join q (s .join (cost s (d .tree)) (cost s (f .tree))) ≡ s .join q (s .join x y) = ap (s .join q) (ap₂ (s .join) (d .costs) (f .costs)) in
-      let ok = subst (λ c. Admits s ceiling (entry (r .category) (b - 1) (length ws - e)) c) (sym same) fine in
-      subst (λ c. Filled (view (s .neutral) (g .categories) chart after (r .category) b e) (λ z. Within s z c)) same (taken (binary r at (d .tree) (f .tree)) (ok, d .passes, f .passes));
-  } }
+  closed = record {
+    at = λ b e first order last. record {
+      words = λ k i r at here bi ei fine.
+          let n = length ws in
+          let v = view (s .neutral) (g .categories) chart after in
+          let P : ℕ → ℕ → Type 0 = λ b e. Admits s ceiling (entry (r .category) (b - 1) (n - e)) (s .price (r .weight)) → Filled (v (r .category) b e) (λ x. Within s x (s .price (r .weight))) in
+          let base : P (i + 1) (i + 1) = λ ok. taken (word r at here) ok in
+          subst₂ P (sym bi) (sym ei) base fine;
+      chains = λ k r x at is fine.
+          let d = kept-in is in
+          let q = s .price (r .weight) in
+          let same : s .join q (cost s (d .tree)) ≡ s .join q x = ap (s .join q) (d .costs) in
+          let ok = subst (λ c. Admits s ceiling (entry (r .category) (b - 1) (length ws - e)) c) (sym same) fine in
+          subst (λ c. Filled (view (s .neutral) (g .categories) chart after (r .category) b e) (λ y. Within s y c)) same (taken (chain r at (d .tree)) (ok, d .passes));
+      binaries = λ k m r x y at low high is-x is-y fine.
+          let d = kept-in is-x in
+          let f = kept-in is-y in
+          let q = s .price (r .weight) in
+          let same : s .join q (s .join (cost s (d .tree)) (cost s (f .tree))) ≡ s .join q (s .join x y) = ap (s .join q) (ap₂ (s .join) (d .costs) (f .costs)) in
+          let ok = subst (λ c. Admits s ceiling (entry (r .category) (b - 1) (length ws - e)) c) (sym same) fine in
+          subst (λ c. Filled (view (s .neutral) (g .categories) chart after (r .category) b e) (λ z. Within s z c)) same (taken (binary r at (d .tree) (f .tree)) (ok, d .passes, f .passes));
+    };
+  }

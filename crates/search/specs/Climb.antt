@@ -9,10 +9,10 @@ use Rattle.std.specs.declared.option.Option.the-variants.{Some, None}
 use Rattle.derivation.specs.Grammar.{Grammar}
 use Rattle.derivation.specs.Scale.{Scale}
 use Rattle.derivation.specs.Bounds.{Entries}
+use Rattle.derivation.specs.Kept.{Kept-number}
 use Rattle.derivation.specs.Ladder.{ceiling-at, Fails}
 use Rattle.chart.specs.Meaning.{Seen}
 use Rattle.round.specs.Round.{Round}
-use Rattle.round.specs.Counting.{number}
 use Rattle.search.specs.declared.climb.Last.{Last}
 
 module _ {Cost : Type 0} (s : Scale Cost) (g : Grammar) (entry : Entries Cost) where
@@ -20,7 +20,7 @@ module _ {Cost : Type 0} (s : Scale Cost) (g : Grammar) (entry : Entries Cost) w
   pub record Keeps (ceiling : Option Cost) (ws : List ℕ) (before : List Cost) (chart : Seen) (after : List Cost) (kept : ℕ) : Type 0 where
     pub round : Round s g entry ceiling ws before chart after
     pub held : chart .holds 1 (length ws) (g .top) ≡ true
-    pub count : kept ≡ number (chart .holds) (g .categories) (length ws)
+    pub count : Kept-number s g entry ceiling ws kept
 
   -- a round that does not keep the top
   pub record Lacks (ceiling : Option Cost) (ws : List ℕ) (before : List Cost) (chart : Seen) (after : List Cost) : Type 0 where

@@ -5,9 +5,9 @@ ghost use lib.ListN.{length};
 ghost use Rattle.derivation.specs.Grammar.{grammar};
 ghost use Rattle.chart.specs.Triangle.{tri};
 ghost use Rattle.search.specs.Best.{Best};
+use crate::climb::climb;
 use bound::Bound;
 use chart::Chart;
-use crate::climb::climb;
 use derivation::Rules;
 use scale::Scale;
 use table::known;
@@ -24,7 +24,15 @@ pub struct Tree<Cost> {
 }
 
 // The tree of the first round that keeps the top over all words; none if no round does.
-pub fn best<S: Scale, C: Chart, B: Bound<S>>(rules: &Rules, text: &[u16], bound: &B, ladder: &[S::Cost], chart: &mut C, costs: &mut [S::Cost], nodes: &mut [Node]) -> Option<Tree<S::Cost>>
+pub fn best<S: Scale, C: Chart, B: Bound<S>>(
+    rules: &Rules,
+    text: &[u16],
+    bound: &B,
+    ladder: &[S::Cost],
+    chart: &mut C,
+    costs: &mut [S::Cost],
+    nodes: &mut [Node],
+) -> Option<Tree<S::Cost>>
     requires roomy { ⌜ length (now text) ≤ seen (now chart) .room ⌝ }
     requires long { ⌜ tri (length (now text)) * now rules .categories ≤ length (now costs) ⌝ }
     requires wide { ⌜ (2 * length (now text) - 1) * now rules .categories ≤ length (now nodes) ⌝ }
@@ -32,9 +40,21 @@ pub fn best<S: Scale, C: Chart, B: Bound<S>>(rules: &Rules, text: &[u16], bound:
     ensures best { λ r. ⌜ Best scale (grammar (now (rules .entry))) (limit (now (bound .entry))) (now (ladder .entry)) (now (text .entry)) (now (costs .entry)) (seen (now (chart .exit))) (now (costs .exit)) (now (nodes .entry)) (now (nodes .exit)) r ⌝ }
 {
     let last = climb::<S, C, B>(rules, text, bound, ladder, chart, costs)?;
-    let Some(cost) = known::<S, C>(chart, costs, rules.categories, 1, text.len(), rules.top as usize) else {
+    let Some(cost) = known::<S, C>(
+        chart,
+        costs,
+        rules.categories,
+        1,
+        text.len(),
+        rules.top as usize,
+    ) else {
         unreachable()
     };
     let nodes = extract::<S, C>(rules, text, chart, costs, nodes);
-    Some(Tree { cost, rung: last.rung, kept: last.kept, nodes })
+    Some(Tree {
+        cost,
+        rung: last.rung,
+        kept: last.kept,
+        nodes,
+    })
 }

@@ -20,7 +20,14 @@ pub struct Last {
 }
 
 // One round, and whether it keeps the top over all words: the number of constituents kept, if so.
-fn attempt<S: Scale, C: Chart, B: Bound<S>>(rules: &Rules, text: &[u16], bound: &B, ceiling: Option<S::Cost>, chart: &mut C, costs: &mut [S::Cost]) -> Option<usize>
+fn attempt<S: Scale, C: Chart, B: Bound<S>>(
+    rules: &Rules,
+    text: &[u16],
+    bound: &B,
+    ceiling: Option<S::Cost>,
+    chart: &mut C,
+    costs: &mut [S::Cost],
+) -> Option<usize>
     requires roomy { ⌜ length (now text) ≤ seen (now chart) .room ⌝ }
     requires long { ⌜ tri (length (now text)) * now rules .categories ≤ length (now costs) ⌝ }
     ensures room { λ _. ⌜ seen (now (chart .exit)) .room ≡ seen (now (chart .entry)) .room ⌝ }
@@ -35,7 +42,14 @@ fn attempt<S: Scale, C: Chart, B: Bound<S>>(rules: &Rules, text: &[u16], bound: 
 }
 
 // The rounds of a ladder, up to the first that keeps the top over all words; none if no round does.
-pub fn climb<S: Scale, C: Chart, B: Bound<S>>(rules: &Rules, text: &[u16], bound: &B, ladder: &[S::Cost], chart: &mut C, costs: &mut [S::Cost]) -> Option<Last>
+pub fn climb<S: Scale, C: Chart, B: Bound<S>>(
+    rules: &Rules,
+    text: &[u16],
+    bound: &B,
+    ladder: &[S::Cost],
+    chart: &mut C,
+    costs: &mut [S::Cost],
+) -> Option<Last>
     requires roomy { ⌜ length (now text) ≤ seen (now chart) .room ⌝ }
     requires long { ⌜ tri (length (now text)) * now rules .categories ≤ length (now costs) ⌝ }
     ensures room { λ _. ⌜ seen (now (chart .exit)) .room ≡ seen (now (chart .entry)) .room ⌝ }
@@ -47,7 +61,10 @@ pub fn climb<S: Scale, C: Chart, B: Bound<S>>(rules: &Rules, text: &[u16], bound
         }
     }
     match attempt::<S, C, B>(rules, text, bound, None, chart, costs) {
-        Some(kept) => Some(Last { rung: ladder.len(), kept }),
+        Some(kept) => Some(Last {
+            rung: ladder.len(),
+            kept,
+        }),
         None => None,
     }
 }

@@ -14,7 +14,10 @@ pub struct Cursor<'a> {
 
 impl<'a> Cursor<'a> {
     pub fn new(text: &'a [u8]) -> Cursor<'a> {
-        Cursor { rest: text, line: 1 }
+        Cursor {
+            rest: text,
+            line: 1,
+        }
     }
 
     // The number of the line that comes next, counted from 1.

@@ -18,17 +18,35 @@ use std::alloc::Global;
 
 // The number that the program gives its one grammar, and the most categories that it takes.
 const NUMBER: u16 = 1;
+
 const CATEGORIES: usize = 32;
 
 // What a sentence file is answered: a line for each sentence and for each line that is refused.
 pub fn answers(heap: Global, text: &[u8]) -> Result<Vec<u8>, AllocError> {
     let mut out = Vec::new(heap);
     let mut cursor = Cursor::new(text);
-    let preamble = read_preamble(heap, &mut cursor, Draft::new(heap, NUMBER, CATEGORIES), &mut out)?;
+    let preamble = read_preamble(
+        heap,
+        &mut cursor,
+        Draft::new(heap, NUMBER, CATEGORIES),
+        &mut out,
+    )?;
     match preamble.draft.close() {
         Ok(mut grammar) => match preamble.scale {
-            ScaleName::Sum => serve::<Sum>(heap, &mut cursor, &mut grammar, preamble.ladder.as_slice(), &mut out)?,
-            ScaleName::Worst => serve::<Worst>(heap, &mut cursor, &mut grammar, preamble.ladder.as_slice(), &mut out)?,
+            ScaleName::Sum => serve::<Sum>(
+                heap,
+                &mut cursor,
+                &mut grammar,
+                preamble.ladder.as_slice(),
+                &mut out,
+            )?,
+            ScaleName::Worst => serve::<Worst>(
+                heap,
+                &mut cursor,
+                &mut grammar,
+                preamble.ladder.as_slice(),
+                &mut out,
+            )?,
         },
         Err((fault, _)) => refuse_all(heap, &mut cursor, fault.refusal, &mut out)?,
     }

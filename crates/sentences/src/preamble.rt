@@ -33,8 +33,17 @@ enum Next {
 }
 
 // Takes one line before the first sentence.
-fn take_line(heap: Global, line: &[u8], draft: &mut Draft, options: &mut Options) -> Result<Next, Stop<LineFault>> {
-    let allowed = Allowed { grammar: true, scale: options.scale.is_none(), ladder: options.ladder.is_none() };
+fn take_line(
+    heap: Global,
+    line: &[u8],
+    draft: &mut Draft,
+    options: &mut Options,
+) -> Result<Next, Stop<LineFault>> {
+    let allowed = Allowed {
+        grammar: true,
+        scale: options.scale.is_none(),
+        ladder: options.ladder.is_none(),
+    };
     match read_line(heap, line, allowed)? {
         None => {}
         Some(Form::Say(_)) => return Ok(Next::Sentence),
@@ -46,8 +55,16 @@ fn take_line(heap: Global, line: &[u8], draft: &mut Draft, options: &mut Options
 }
 
 // Reads up to the first sentence that is free of faults of text and form, and not past it.
-pub fn read_preamble(heap: Global, cursor: &mut Cursor<'_>, mut draft: Draft, out: &mut Vec<u8>) -> Result<Preamble, AllocError> {
-    let mut options = Options { scale: None, ladder: None };
+pub fn read_preamble(
+    heap: Global,
+    cursor: &mut Cursor<'_>,
+    mut draft: Draft,
+    out: &mut Vec<u8>,
+) -> Result<Preamble, AllocError> {
+    let mut options = Options {
+        scale: None,
+        ladder: None,
+    };
     while let Some(line) = cursor.peek() {
         match take_line(heap, line, &mut draft, &mut options) {
             Ok(Next::Sentence) => break,
@@ -61,5 +78,9 @@ pub fn read_preamble(heap: Global, cursor: &mut Cursor<'_>, mut draft: Draft, ou
         Some(ceilings) => ceilings,
         None => Vec::new(heap),
     };
-    Ok(Preamble { draft, scale: options.scale.unwrap_or(ScaleName::Sum), ladder })
+    Ok(Preamble {
+        draft,
+        scale: options.scale.unwrap_or(ScaleName::Sum),
+        ladder,
+    })
 }

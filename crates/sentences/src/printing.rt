@@ -36,7 +36,12 @@ fn number(heap: Global, out: &mut Vec<u8>, n: usize) -> Result<(), AllocError> {
 }
 
 // Writes (refused NUMBER LINE).
-pub fn refused(heap: Global, out: &mut Vec<u8>, refusal: Refusal, line: usize) -> Result<(), AllocError> {
+pub fn refused(
+    heap: Global,
+    out: &mut Vec<u8>,
+    refusal: Refusal,
+    line: usize,
+) -> Result<(), AllocError> {
     out.extend_from_slice(b"(refused ")?;
     number(heap, out, usize::from(refusal.number()))?;
     out.extend_from_slice(b" ")?;
@@ -45,7 +50,13 @@ pub fn refused(heap: Global, out: &mut Vec<u8>, refusal: Refusal, line: usize) -
 }
 
 // Writes (tree COST RUNG KEPT TREE).
-pub fn handed<S: Written>(heap: Global, out: &mut Vec<u8>, names: &Spelt<'_>, tree: Tree<S::Cost>, nodes: &[Node]) -> Result<(), AllocError> {
+pub fn handed<S: Written>(
+    heap: Global,
+    out: &mut Vec<u8>,
+    names: &Spelt<'_>,
+    tree: Tree<S::Cost>,
+    nodes: &[Node],
+) -> Result<(), AllocError> {
     out.extend_from_slice(b"(tree ")?;
     number(heap, out, S::figure(tree.cost) as usize)?;
     out.extend_from_slice(b" ")?;

@@ -1,13 +1,13 @@
 // The lines from the first sentence on: each sentence is put word by word, and then its tree is asked for.
-use bound::Floor;
-use bound::FloorBound;
-use chart::ByteChart;
-use chart::ByteChartChart;
 use crate::cursor::Cursor;
 use crate::printing::Written;
 use crate::printing::handed;
 use crate::printing::refused;
 use crate::spelling::Spelt;
+use bound::Floor;
+use bound::FloorBound;
+use chart::ByteChart;
+use chart::ByteChartChart;
 use grammar::Closed;
 use lines::Allowed;
 use lines::Form;
@@ -25,6 +25,7 @@ use tree::Node;
 
 // The most words of a sentence, and how many cells they have.
 const WORDS: usize = 20;
+
 const CELLS: usize = 210;
 
 // The memory that requests work in, and the ladder.
@@ -45,8 +46,18 @@ fn priced<S: Scale>(heap: Global, weights: &[u16]) -> Result<Vec<S::Cost>, Alloc
     Ok(ladder)
 }
 
-fn desk<S: Scale>(heap: Global, weights: &[u16], categories: usize) -> Result<Desk<S::Cost>, AllocError> {
-    let blank = Node { category: 0, begin: 0, end: 0, kind: Kind::Word, rule: 0 };
+fn desk<S: Scale>(
+    heap: Global,
+    weights: &[u16],
+    categories: usize,
+) -> Result<Desk<S::Cost>, AllocError> {
+    let blank = Node {
+        category: 0,
+        begin: 0,
+        end: 0,
+        kind: Kind::Word,
+        rule: 0,
+    };
     Ok(Desk {
         ladder: priced::<S>(heap, weights)?,
         bytes: vec![in heap; 0u8; CELLS * 64]?,
@@ -67,7 +78,12 @@ fn put(grammar: &Closed, session: &mut Session, spelling: &[u8]) -> Result<usize
 }
 
 // Holds the words of a sentence and no others, up to the first that is refused.
-fn hold(grammar: &Closed, session: &mut Session, line: &[u8], words: &[Span]) -> Result<(), Refusal> {
+fn hold(
+    grammar: &Closed,
+    session: &mut Session,
+    line: &[u8],
+    words: &[Span],
+) -> Result<(), Refusal> {
     let held = session.words().len();
     let _ = session.take_back(grammar, held)?;
     for span in words {
@@ -77,17 +93,42 @@ fn hold(grammar: &Closed, session: &mut Session, line: &[u8], words: &[Span]) ->
 }
 
 // The cheapest tree of a sentence.
-fn parse<S: Scale>(grammar: &Closed, session: &mut Session, desk: &mut Desk<S::Cost>, line: &[u8], words: &[Span]) -> Result<Tree<S::Cost>, Refusal> {
+fn parse<S: Scale>(
+    grammar: &Closed,
+    session: &mut Session,
+    desk: &mut Desk<S::Cost>,
+    line: &[u8],
+    words: &[Span],
+) -> Result<Tree<S::Cost>, Refusal> {
     hold(grammar, session, line, words)?;
     let mut chart = ByteChart::new(&mut desk.bytes);
-    session.tree::<S, ByteChart<'_>, Floor>(grammar, &Floor, &desk.ladder, &mut chart, &mut desk.costs, &mut desk.nodes)
+    session.tree::<S, ByteChart<'_>, Floor>(
+        grammar,
+        &Floor,
+        &desk.ladder,
+        &mut chart,
+        &mut desk.costs,
+        &mut desk.nodes,
+    )
 }
 
 // Answers a sentence.
-fn say<S: Written>(heap: Global, grammar: &Closed, session: &mut Session, desk: &mut Desk<S::Cost>, line: &[u8], words: &[Span], number: usize, out: &mut Vec<u8>) -> Result<(), AllocError> {
+fn say<S: Written>(
+    heap: Global,
+    grammar: &Closed,
+    session: &mut Session,
+    desk: &mut Desk<S::Cost>,
+    line: &[u8],
+    words: &[Span],
+    number: usize,
+    out: &mut Vec<u8>,
+) -> Result<(), AllocError> {
     match parse::<S>(grammar, session, desk, line, words) {
         Ok(tree) => {
-            let names = Spelt { grammar, words: session.words() };
+            let names = Spelt {
+                grammar,
+                words: session.words(),
+            };
             handed::<S>(heap, out, &names, tree, &desk.nodes)
         }
         Err(refusal) => refused(heap, out, refusal, number),
@@ -95,12 +136,32 @@ fn say<S: Written>(heap: Global, grammar: &Closed, session: &mut Session, desk: 
 }
 
 // Answers each sentence, and refuses every other line.
-fn answer<S: Written>(heap: Global, cursor: &mut Cursor<'_>, grammar: &Closed, session: &mut Session, weights: &[u16], out: &mut Vec<u8>) -> Result<(), AllocError> {
+fn answer<S: Written>(
+    heap: Global,
+    cursor: &mut Cursor<'_>,
+    grammar: &Closed,
+    session: &mut Session,
+    weights: &[u16],
+    out: &mut Vec<u8>,
+) -> Result<(), AllocError> {
     let mut desk = desk::<S>(heap, weights, grammar.rules().categories)?;
-    let allowed = Allowed { grammar: false, scale: false, ladder: false };
+    let allowed = Allowed {
+        grammar: false,
+        scale: false,
+        ladder: false,
+    };
     while let Some(line) = cursor.peek() {
         match read_line(heap, line, allowed) {
-            Ok(Some(Form::Say(words))) => say::<S>(heap, grammar, session, &mut desk, line, &words, cursor.line(), out)?,
+            Ok(Some(Form::Say(words))) => say::<S>(
+                heap,
+                grammar,
+                session,
+                &mut desk,
+                line,
+                &words,
+                cursor.line(),
+                out,
+            )?,
             Ok(_) => {}
             Err(Stop::Memory) => return Err(AllocError),
             Err(Stop::Refusal(fault)) => refused(heap, out, fault.refusal, cursor.line())?,
@@ -111,7 +172,13 @@ fn answer<S: Written>(heap: Global, cursor: &mut Cursor<'_>, grammar: &Closed, s
 }
 
 // Opens a session over the grammar, answers the rest of the file in it, and closes it.
-pub fn serve<S: Written>(heap: Global, cursor: &mut Cursor<'_>, grammar: &mut Closed, weights: &[u16], out: &mut Vec<u8>) -> Result<(), AllocError> {
+pub fn serve<S: Written>(
+    heap: Global,
+    cursor: &mut Cursor<'_>,
+    grammar: &mut Closed,
+    weights: &[u16],
+    out: &mut Vec<u8>,
+) -> Result<(), AllocError> {
     let (mut session, lease) = match Session::open(grammar) {
         Ok(pair) => pair,
         Err(refusal) => return refuse_all(heap, cursor, refusal, out),
@@ -124,8 +191,17 @@ pub fn serve<S: Written>(heap: Global, cursor: &mut Cursor<'_>, grammar: &mut Cl
 }
 
 // Refuses every sentence for the same cause, and every other line for its own.
-pub fn refuse_all(heap: Global, cursor: &mut Cursor<'_>, refusal: Refusal, out: &mut Vec<u8>) -> Result<(), AllocError> {
-    let allowed = Allowed { grammar: false, scale: false, ladder: false };
+pub fn refuse_all(
+    heap: Global,
+    cursor: &mut Cursor<'_>,
+    refusal: Refusal,
+    out: &mut Vec<u8>,
+) -> Result<(), AllocError> {
+    let allowed = Allowed {
+        grammar: false,
+        scale: false,
+        ladder: false,
+    };
     while let Some(line) = cursor.peek() {
         match read_line(heap, line, allowed) {
             Ok(Some(_)) => refused(heap, out, refusal, cursor.line())?,

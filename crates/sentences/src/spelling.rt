@@ -22,7 +22,10 @@ pub impl Spelling for Spelt<'_> as SpeltSpelling {
     }
 
     fn word(&self, place: usize) -> &[u8] {
-        let word = self.words.get(place.saturating_sub(1)).copied().unwrap_or(65535);
+        let word = self.words
+            .get(place.saturating_sub(1))
+            .copied()
+            .unwrap_or(65535);
         self.grammar.word_name(word)
     }
 }

@@ -67,8 +67,8 @@ module _ {Cost : Type 0} {s : Scale Cost} (lawful : Lawful s) (o : Over) (entry 
         leb-true n (z .span) (and-parts (leb n (z .room)) (leb n (z .span)) (one .0) .1)
 
     -- a tree that is found is a cheapest one
-    pub handed : {tree : Tree Cost} → Given s o entry ladder before after tree → Kept-number s (o .grammar) entry (ceiling-at ladder (tree .rung)) (before .session .held) (tree .kept) → Handed s (o .grammar) entry ladder (before .session .held) (after .nodes) tree
-    handed {tree} given number =
+    pub handed : {tree : Tree Cost} → Given s o entry ladder before after tree → Handed s (o .grammar) entry ladder (before .session .held) (after .nodes) tree
+    handed {tree} given =
         let found = given .found in
         let topped = found .topped in
         let kept = kept-in (topped .keeps .round) (found .costs) in
@@ -81,7 +81,7 @@ module _ {Cost : Type 0} {s : Scale Cost} (lawful : Lawful s) (o : Over) (entry 
           once = found .extracted .straight;
           cheapest = told .cheapest;
           rung = told .rung rising;
-          kept = number;
+          kept = topped .keeps .count;
         }
 
   -- without a derivation nothing is found, and only then
@@ -114,18 +114,18 @@ module _ {Cost : Type 0} {s : Scale Cost} (lawful : Lawful s) (o : Over) (entry 
       sure = λ able. let free = able-free same able in absurd (let f : _≡_ {A = ℕ} 0 1 = cc in omega arith);
     }
 
-    cheapest-searched : (answer : Result (Tree Cost) Refusal) → declined s o (before .session) ladder z ≡ None → Asked s o entry ladder before after None answer → ((t : Tree Cost) → answer ≡ Ok t → Kept-number s (o .grammar) entry (ceiling-at ladder (t .rung)) (before .session .held) (t .kept)) → Cheapest s (o .grammar) entry ladder (before .session .held) z (after .nodes) answer
-    cheapest-searched (Ok t) free asked number = record {
-      tree = λ u is. subst (λ (x : Tree Cost). Handed s (o .grammar) entry ladder (before .session .held) (after .nodes) x) (let q : t ≡ u = cc in q) (handed bounds free asked (number t refl));
+    cheapest-searched : (answer : Result (Tree Cost) Refusal) → declined s o (before .session) ladder z ≡ None → Asked s o entry ladder before after None answer → Cheapest s (o .grammar) entry ladder (before .session .held) z (after .nodes) answer
+    cheapest-searched (Ok t) free asked = record {
+      tree = λ u is. subst (λ (x : Tree Cost). Handed s (o .grammar) entry ladder (before .session .held) (after .nodes) x) (let q : t ≡ u = cc in q) (handed bounds free asked);
       none = λ is _. absurd (let f : _≡_ {A = ℕ} 0 1 = cc in omega arith);
       sure = λ able. inl (t, refl);
     }
-    cheapest-searched (Err r) free asked number = record {
+    cheapest-searched (Err r) free asked = record {
       tree = λ t is. absurd (let f : _≡_ {A = ℕ} 0 1 = cc in omega arith);
       none = λ is d. underivable (asked .1) d;
       sure = λ able. inr (ap Err (asked .0));
     }
 
-    pub cheapest-asked : (d : Option Refusal) (answer : Result (Tree Cost) Refusal) → declined s o (before .session) ladder z ≡ d → Asked s o entry ladder before after d answer → ((t : Tree Cost) → answer ≡ Ok t → Kept-number s (o .grammar) entry (ceiling-at ladder (t .rung)) (before .session .held) (t .kept)) → Cheapest s (o .grammar) entry ladder (before .session .held) z (after .nodes) answer
-    cheapest-asked None answer is asked number = cheapest-searched answer is asked number
-    cheapest-asked (Some r) answer is asked number = cheapest-declined r answer is (asked .0)
+    pub cheapest-asked : (d : Option Refusal) (answer : Result (Tree Cost) Refusal) → declined s o (before .session) ladder z ≡ d → Asked s o entry ladder before after d answer → Cheapest s (o .grammar) entry ladder (before .session .held) z (after .nodes) answer
+    cheapest-asked None answer is asked = cheapest-searched answer is asked
+    cheapest-asked (Some r) answer is asked = cheapest-declined r answer is (asked .0)

@@ -16,7 +16,15 @@ impl Session {
         ensures after { λ _. ⌜ sealed (now (grammar .exit)) ≡ drawn (now (grammar .entry)) ⌝ }
     {
         let lease = grammar.draw()?;
-        Ok((Session { words: [0; 40], len: 0, tally: 0, number: grammar.number() }, lease))
+        Ok((
+            Session {
+                words: [0; 40],
+                len: 0,
+                tally: 0,
+                number: grammar.number(),
+            },
+            lease,
+        ))
     }
 
     // Closes a session and gives its lease back, or hands both back as they were.

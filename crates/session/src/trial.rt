@@ -18,7 +18,12 @@ impl Drop for Trial<'_> {
     fn drop(self)
         ensures { λ _. ⌜ state (now (self .exit .0)) ≡ back (self .entry .refused) (state (now (self .entry .session))) (self .entry .place) (self .entry .earlier) ⌝ }
     {
-        let Trial { session, place, earlier, refused } = self;
+        let Trial {
+            session,
+            place,
+            earlier,
+            refused,
+        } = self;
         if refused.is_none() && 1 <= place && place <= session.len {
             session.words[place - 1] = earlier;
         }
@@ -51,11 +56,21 @@ impl Session {
     {
         let refused = self.trial_refusal(grammar, place, word);
         if refused.is_some() {
-            return Trial { session: self, place, earlier: 0, refused };
+            return Trial {
+                session: self,
+                place,
+                earlier: 0,
+                refused,
+            };
         }
         let earlier = self.words[place - 1];
         self.words[place - 1] = word;
-        Trial { session: self, place, earlier, refused }
+        Trial {
+            session: self,
+            place,
+            earlier,
+            refused,
+        }
     }
 }
 
@@ -64,12 +79,16 @@ impl Trial<'_> {
     pub fn keep(self)
         ensures { λ _. ⌜ state (now (self .exit .0)) ≡ state (now (self .entry .session)) ⌝ }
     {
-        let Trial { session: _, place: _, earlier: _, refused: _ } = self;
+        let Trial {
+            session: _,
+            place: _,
+            earlier: _,
+            refused: _,
+        } = self;
     }
 
     // The earlier word stands again.
     pub fn abandon(self)
         ensures { λ _. ⌜ state (now (self .exit .0)) ≡ back (self .entry .refused) (state (now (self .entry .session))) (self .entry .place) (self .entry .earlier) ⌝ }
-    {
-    }
+    {}
 }

@@ -62,12 +62,12 @@ module _ {Cost : Type 0} {s : Scale Cost} (lawful : Lawful s) where
     -- a cost that is offered raises nothing
     pub falls : {before after : Column Cost} {at : ℕ} {cost : Cost} → Offered s ok before after at cost → (A : ℕ) (y : Cost) → Filled (before A) (λ x. Within s x y) → Filled (after A) (λ x. Within s x y)
     falls {before} {after} {at} off A y h = elim (ℕ-discrete A at) [
-        | yes e ↦
+      | yes e ↦
           let (x, is, low) = found (before A) h in
           let there : Filled (after at) (λ z. Within s z y) = filled-map (after at) (λ z k. lawful .trans _ _ _ k low) (off .lower x (subst (λ k. before k ≡ Some x) e is)) in
           subst (λ k. Filled (after k) (λ z. Within s z y)) (sym e) there
-        | no ne ↦ subst (λ o. Filled o (λ x. Within s x y)) (sym (off .others A ne)) h
-      ]
+      | no ne ↦ subst (λ o. Filled o (λ x. Within s x y)) (sym (off .others A ne)) h
+    ]
 
     pub sinks : {Src : ℕ → Cost → Type 0} {before after : Column Cost} → Grown s ok Src before after → (A : ℕ) (y : Cost) → Filled (before A) (λ x. Within s x y) → Filled (after A) (λ x. Within s x y)
     sinks {before = before} {after = after} grown A y h =
@@ -95,16 +95,16 @@ module _ {Cost : Type 0} {s : Scale Cost} (lawful : Lawful s) where
       rest = λ A none. off .others A (λ e. none cost (subst (λ k. Src′ k cost) (sym e) new)) ∙ grown .rest A (λ c h. none c (up A c h));
       lower = λ A y is. falls off A y (grown .lower A y is);
       made = λ A c h fine. ⊎-elim
-        (λ old. falls off A c (grown .made A c old fine))
-        (λ (q : (A ≡ at) × (c ≡ cost)).
+          (λ old. falls off A c (grown .made A c old fine))
+          (λ (q : (A ≡ at) × (c ≡ cost)).
           let there : Filled (after at) (λ x. Within s x cost) = off .low (subst (λ z. ok at z) (q .1) (subst (λ k. ok k c) (q .0) fine)) in
           subst (λ z. Filled (after A) (λ x. Within s x z)) (sym (q .1)) (subst (λ k. Filled (after k) (λ x. Within s x cost)) (sym (q .0)) there))
-        (cases A c h);
+          (cases A c h);
       origin = λ A x is. elim (ℕ-discrete A at) [
         | yes e ↦ ⊎-elim
-          (λ was. ⊎-elim inl (λ (h : Src A x × ok A x). inr (up A x (h .0), h .1)) (grown .origin A x (subst (λ k. now k ≡ Some x) (sym e) was)))
-          (λ (h : (x ≡ cost) × ok at cost). inr (subst (λ k. Src′ k x) (sym e) (subst (λ z. Src′ at z) (sym (h .0)) new), subst (λ k. ok k x) (sym e) (subst (λ z. ok at z) (sym (h .0)) (h .1))))
-          (off .origin x (subst (λ k. after k ≡ Some x) e is))
+            (λ was. ⊎-elim inl (λ (h : Src A x × ok A x). inr (up A x (h .0), h .1)) (grown .origin A x (subst (λ k. now k ≡ Some x) (sym e) was)))
+            (λ (h : (x ≡ cost) × ok at cost). inr (subst (λ k. Src′ k x) (sym e) (subst (λ z. Src′ at z) (sym (h .0)) new), subst (λ k. ok k x) (sym e) (subst (λ z. ok at z) (sym (h .0)) (h .1))))
+            (off .origin x (subst (λ k. after k ≡ Some x) e is))
         | no ne ↦ ⊎-elim inl (λ (h : Src A x × ok A x). inr (up A x (h .0), h .1)) (grown .origin A x (sym (off .others A ne) ∙ is))
       ];
     }
@@ -115,7 +115,7 @@ module _ {Cost : Type 0} {s : Scale Cost} (lawful : Lawful s) where
       lower = λ A y is. sinks more A y (grown .lower A y is);
       made = λ A c h fine. ⊎-elim (λ old. sinks more A c (grown .made A c old fine)) (λ new. more .made A c new fine) (cases A c h);
       origin = λ A x is. ⊎-elim
-        (λ was. ⊎-elim inl (λ (h : Src A x × ok A x). inr (up A x (h .0), h .1)) (grown .origin A x was))
-        (λ (h : Add A x × ok A x). inr (add A x (h .0), h .1))
-        (more .origin A x is);
+          (λ was. ⊎-elim inl (λ (h : Src A x × ok A x). inr (up A x (h .0), h .1)) (grown .origin A x was))
+          (λ (h : Add A x × ok A x). inr (add A x (h .0), h .1))
+          (more .origin A x is);
     }

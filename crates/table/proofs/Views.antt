@@ -47,22 +47,22 @@ module _ {Cost : Type 0} (d : Cost) (g : ℕ) where
   -- a cost in the table is that of a constituent that is held
   pub view-held : (chart : Seen) (costs : List Cost) (A b e : ℕ) (x : Cost) → view d g chart costs A b e ≡ Some x → (chart .holds b e A ≡ true) × (getD costs (slot g b e A) d ≡ x)
   view-held chart costs A b e x is = elim (cases-bool (chart .holds b e A)) [
-      inl t ↦ (t, some-same (view-true chart costs A b e t) is)
+    | inl t ↦ (t, some-same (view-true chart costs A b e t) is)
     | inr f ↦ absurd (none-some (view-false chart costs A b e f) is)
   ]
 
   pub view-same : (before after : Seen) (costs costs′ : List Cost) (A b e : ℕ) → after .holds b e A ≡ before .holds b e A → (before .holds b e A ≡ true → getD costs′ (slot g b e A) d ≡ getD costs (slot g b e A) d) → view d g after costs′ A b e ≡ view d g before costs A b e
   view-same before after costs costs′ A b e held same = elim (cases-bool (before .holds b e A)) [
-      inl t ↦ view-true after costs′ A b e (held ∙ t) ∙ ap Some (same t) ∙ sym (view-true before costs A b e t)
+    | inl t ↦ view-true after costs′ A b e (held ∙ t) ∙ ap Some (same t) ∙ sym (view-true before costs A b e t)
     | inr f ↦ view-false after costs′ A b e (held ∙ f) ∙ sym (view-false before costs A b e f)
   ]
 
   -- a table tells what is held
   pub held-same : (before after : Seen) (costs costs′ : List Cost) (A x y : ℕ) → view d g after costs′ A x y ≡ view d g before costs A x y → after .holds x y A ≡ before .holds x y A
   held-same before after costs costs′ A x y is = elim (cases-bool (before .holds x y A)) [
-      inl t ↦ view-held after costs′ A x y _ (is ∙ view-true before costs A x y t) .0 ∙ sym t
+    | inl t ↦ view-held after costs′ A x y _ (is ∙ view-true before costs A x y t) .0 ∙ sym t
     | inr f ↦ elim (cases-bool (after .holds x y A)) [
-        inl t ↦ absurd (none-some (view-false before costs A x y f) (sym is ∙ view-true after costs′ A x y t))
+      | inl t ↦ absurd (none-some (view-false before costs A x y f) (sym is ∙ view-true after costs′ A x y t))
       | inr f′ ↦ f′ ∙ sym f
     ]
   ]
@@ -74,9 +74,9 @@ module _ {Cost : Type 0} (d : Cost) (g : ℕ) where
   moved-then n first then = record {
     grows = λ b e A t. then .grows b e A (first .grows b e A t);
     same = λ k. ⊎-elim
-      (λ one. ⊎-elim (λ two. inl (one ∙ two)) (λ at. inr (at .0, at .1, at .2, at .3, at .4, then .grows (at .0) (at .1) (at .2) (at .5))) (first .same k))
-      (λ at. inr at)
-      (then .same k);
+        (λ one. ⊎-elim (λ two. inl (one ∙ two)) (λ at. inr (at .0, at .1, at .2, at .3, at .4, then .grows (at .0) (at .1) (at .2) (at .5))) (first .same k))
+        (λ at. inr at)
+        (then .same k);
   }
 
   pub stored : (before after : Seen) (costs : List Cost) → ((x y B : ℕ) → before .holds x y B ≡ true → Inside (before .words) g x y B) → (b e A : ℕ) (cost : Cost) → Inside (before .words) g b e A → slot g b e A < length costs → Alike before after → Adds (before .holds) (after .holds) true b e A → Stored d g b e A cost before costs after (set costs (slot g b e A) cost)
@@ -89,7 +89,7 @@ module _ {Cost : Type 0} (d : Cost) (g : ℕ) where
         alike = alike;
         here = view-true after (set costs at cost) A b e new ∙ ap Some (getD-set-same costs at cost d fits);
         elsewhere = λ B x y ne. view-same before after costs (set costs at cost) B x y (adds-other h h′ true b e A x y B adds (λ p q r. ne r p q))
-          (λ t. getD-set-other costs at (slot g x y B) cost d (λ same. let q = slot-apart (before .words) g x y B b e A (bounded x y B t) inside same in ne (q .2) (q .0) (q .1)));
+            (λ t. getD-set-other costs at (slot g x y B) cost d (λ same. let q = slot-apart (before .words) g x y B b e A (bounded x y B t) inside same in ne (q .2) (q .0) (q .1)));
         moved = record {
           grows = λ x y B t. adds-keeps h h′ true b e A x y B adds t;
           same = λ k. elim (ℕ-discrete k at) [ yes is ↦ inr (b, e, A, inside, is, new) | no ne ↦ inl (getD-set-other costs at k cost d ne) ];

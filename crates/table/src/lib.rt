@@ -22,7 +22,14 @@ pub fn slot_of(kinds: usize, b: usize, e: usize, a: usize) -> usize
 }
 
 // The cost of a constituent, if the chart holds it.
-pub fn known<S: Scale, C: Chart>(chart: &C, costs: &[S::Cost], kinds: usize, b: usize, e: usize, a: usize) -> Option<S::Cost>
+pub fn known<S: Scale, C: Chart>(
+    chart: &C,
+    costs: &[S::Cost],
+    kinds: usize,
+    b: usize,
+    e: usize,
+    a: usize,
+) -> Option<S::Cost>
     requires { ⌜ Ready kinds (seen (now chart)) (length (now costs)) ⌝ }
     ensures { λ r. ⌜ r ≡ view (scale .neutral) kinds (seen (now (chart .entry))) (now (costs .entry)) a b e ⌝ }
 {
@@ -34,7 +41,15 @@ pub fn known<S: Scale, C: Chart>(chart: &C, costs: &[S::Cost], kinds: usize, b: 
 }
 
 // Adds a constituent and its cost.
-pub fn store<S: Scale, C: Chart>(chart: &mut C, costs: &mut [S::Cost], kinds: usize, b: usize, e: usize, a: usize, cost: S::Cost)
+pub fn store<S: Scale, C: Chart>(
+    chart: &mut C,
+    costs: &mut [S::Cost],
+    kinds: usize,
+    b: usize,
+    e: usize,
+    a: usize,
+    cost: S::Cost,
+)
     requires placed { ⌜ Placed kinds b e (seen (now chart)) (length (now costs)) ⌝ }
     requires kind { ⌜ a < kinds ⌝ }
     ensures { λ _. ⌜ Stored (scale .neutral) kinds b e a cost (seen (now (chart .entry))) (now (costs .entry)) (seen (now (chart .exit))) (now (costs .exit)) ⌝ }

@@ -1,8 +1,7 @@
-use mathlib.Core.Path.{_≡_, refl, sym, ap, ap₂, subst, _∙_}
-use mathlib.Core.Bool.{Bool, true, false, cond}
-use Prim.Native.Nat.{ℕ, _+_, _<_, _≤_}
+use mathlib.Core.Path.{_≡_, sym, ap, ap₂, _∙_}
+use mathlib.Core.Bool.{Bool, cond}
+use Prim.Native.Nat.{ℕ, _+_}
 use native.Mathlib.Omega.{arith}
-use Rattle.round.specs.Counting.{tally}
 use Rattle.round.proofs.Counts.{tally-most, tally-more}
 use Rattle.round.proofs.count.Needs as need
 use Rattle.round.proofs.count.Needs.{then-has, else-has}
@@ -22,9 +21,9 @@ loop-a-again g c =
     elim (c .if-has .came) [
       | then-has w ↦ w .held-is ∙ ap₂ (λ (m n : ℕ). m + n) (c .loop-a .inv) (ap (λ (t : Bool). cond t 1 0) (w .if-has .ensures tt)) ∙ sym (tally-more h b e a)
       | else-has w ↦
-        let none : _≡_ {A = ℕ} 0 (cond (h b e a) 1 0) = ap (λ (t : Bool). cond t 1 0) (w .if-has .ensures tt) in
-        let more = tally-more h b e a in
-        let inv = c .loop-a .inv in
-        let is = w .held-is in
-        omega arith
+          let none : _≡_ {A = ℕ} 0 (cond (h b e a) 1 0) = ap (λ (t : Bool). cond t 1 0) (w .if-has .ensures tt) in
+          let more = tally-more h b e a in
+          let inv = c .loop-a .inv in
+          let is = w .held-is in
+          omega arith
     ]

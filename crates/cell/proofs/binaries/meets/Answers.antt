@@ -18,9 +18,9 @@ use Rattle.cell.proofs.binaries.meets.Needs.{in-Some, in-rest}
 
 pub loop-m-holds : need.loop-m-holds
 loop-m-holds g c =
-    let high = c .pre .high in
-    ( framed-none _ _ _ _
-    , grown-none (g .S·Scale·met .lawful) _ (λ A x h. c .pre .lowest (h .middle) (h .high) (meet-splits (g .S·Scale .scale .neutral) (c .args .kinds) (g .C·Chart .seen (c .args .chart .now)) (c .args .costs .now) (omega arith) h))
+    let high = c .pre .high in (
+      framed-none _ _ _ _,
+      grown-none (g .S·Scale·met .lawful) _ (λ A x h. c .pre .lowest (h .middle) (h .high) (meet-splits (g .S·Scale .scale .neutral) (c .args .kinds) (g .C·Chart .seen (c .args .chart .now)) (c .args .costs .now) (omega arith) h)),
     )
 
 pub loop-m-again : need.loop-m-again
@@ -44,19 +44,19 @@ loop-m-again g c =
     let here : b ≤ m = omega arith in
     elim (c .match-paired .came) [
       | in-Some w ↦
-        let did = w .offer .ensures in
-        let is : joined s (r .weight) (old (r .left) b m) (old (r .right) (m + 1) e) ≡ Some (w .in-Some .cost) = reads ∙ sym (w .in-Some .ensures tt) in
-        simp (w .chart-is, w .costs-is)
-        ( framed-then (s .neutral) (c .args .kinds) (inv .0) (did .framed)
-        , grown-offer lawful (inv .1) (did .offered) (meet-up m) (meet-here m (w .in-Some .cost) here is)
-          (λ A x h. ⊎-elim inl (λ (q : (A ≡ r .category) × (joined s (r .weight) (old (r .left) b m) (old (r .right) (m + 1) e) ≡ Some x)). inr (q .0, some-same (q .1) is)) (meet-cases m A x h))
-        )
+          let did = w .offer .ensures in
+          let is : joined s (r .weight) (old (r .left) b m) (old (r .right) (m + 1) e) ≡ Some (w .in-Some .cost) = reads ∙ sym (w .in-Some .ensures tt) in
+          simp (w .chart-is, w .costs-is) (
+            framed-then (s .neutral) (c .args .kinds) (inv .0) (did .framed),
+            grown-offer lawful (inv .1) (did .offered) (meet-up m) (meet-here m (w .in-Some .cost) here is)
+                (λ A x h. ⊎-elim inl (λ (q : (A ≡ r .category) × (joined s (r .weight) (old (r .left) b m) (old (r .right) (m + 1) e) ≡ Some x)). inr (q .0, some-same (q .1) is)) (meet-cases m A x h)),
+          )
       | in-rest w ↦
-        simp (w .chart-is, w .costs-is)
-        ( inv .0
-        , grown-same lawful (inv .1) (meet-up m)
-          (λ A x h. ⊎-elim (λ k. k) (λ (q : (A ≡ r .category) × (joined s (r .weight) (old (r .left) b m) (old (r .right) (m + 1) e) ≡ Some x)). absurd (none-some (reads ∙ sym (w .in-rest .ensures tt)) (q .1))) (meet-cases m A x h))
-        )
+          simp (w .chart-is, w .costs-is) (
+            inv .0,
+            grown-same lawful (inv .1) (meet-up m)
+                (λ A x h. ⊎-elim (λ k. k) (λ (q : (A ≡ r .category) × (joined s (r .weight) (old (r .left) b m) (old (r .right) (m + 1) e) ≡ Some x)). absurd (none-some (reads ∙ sym (w .in-rest .ensures tt)) (q .1))) (meet-cases m A x h)),
+          )
     ]
 
 pub returns : need.returns

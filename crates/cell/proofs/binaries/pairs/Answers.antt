@@ -35,14 +35,14 @@ loop-rule-again g c =
     let forth = meet-moved {s = s} {rule = r} {v = now-v} old last (λ B x y ne. sym (inv .0 .elsewhere B x y ne)) in
     elim (c .match-split .came) [
       | in-Some w ↦
-        let did = w .meets .ensures in
-        simp (w .chart-is, w .costs-is)
-        ( framed-then d kinds (inv .0) (did .framed)
-        , grown-then lawful (inv .1) (grown-same lawful (did .grown) forth back) (pair-up j) (pair-here j none less) (pair-cases j none)
-        )
+          let did = w .meets .ensures in
+          simp (w .chart-is, w .costs-is) (
+            framed-then d kinds (inv .0) (did .framed),
+            grown-then lawful (inv .1) (grown-same lawful (did .grown) forth back) (pair-up j) (pair-here j none less) (pair-cases j none),
+          )
       | in-rest w ↦
-        simp (w .chart-is, w .costs-is)
-        ( inv .0
-        , grown-same lawful (inv .1) (pair-up j) (λ A x h. ⊎-elim (λ k. k) (λ (q : Meet s r old b e e A x). let t = back A x q in absurd (w .in-rest .ensures tt (t .middle) (meet-splits d kinds (seen (c .loop-rule .chart)) (c .loop-rule .costs) last t))) (pair-cases j none A x h))
-        )
+          simp (w .chart-is, w .costs-is) (
+            inv .0,
+            grown-same lawful (inv .1) (pair-up j) (λ A x h. ⊎-elim (λ k. k) (λ (q : Meet s r old b e e A x). let t = back A x q in absurd (w .in-rest .ensures tt (t .middle) (meet-splits d kinds (seen (c .loop-rule .chart)) (c .loop-rule .costs) last t))) (pair-cases j none A x h)),
+          )
     ]

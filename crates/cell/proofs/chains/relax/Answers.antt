@@ -35,20 +35,20 @@ loop-rule-again g c =
     let inv = c .loop-rule .inv in
     elim (c .if-rule-part .came) [
       | then-rule-part·then-not-done-category v ↦
-        let did = v .offer .ensures in
-        let offered = subst (λ p. Offered s ok (V (seen (c .loop-rule .chart)) (c .loop-rule .costs)) (V (seen (v .offer .last .chart)) (v .offer .last .costs)) (r .category) p) (v .join .ensures ∙ ap (λ p. s .join p cost) (v .price .ensures)) (did .offered) in
-        simp (v .chart-is, v .costs-is)
-        ( framed-then (s .neutral) (c .args .kinds) (inv .0) (did .framed)
-        , grown-offer lawful (inv .1) offered (link-up j) (link-here j none (c .loop-rule-test .taken) (v .if-rule-part .taken) (v .if-not-done-category .taken))
-          (λ A x h. ⊎-elim inl (λ (q : (r .part ≡ part) × (getD done (r .category) false ≡ false) × (A ≡ r .category) × (x ≡ whole)). inr (q .2, q .3)) (link-cases j none A x h))
-        )
+          let did = v .offer .ensures in
+          let offered = subst (λ p. Offered s ok (V (seen (c .loop-rule .chart)) (c .loop-rule .costs)) (V (seen (v .offer .last .chart)) (v .offer .last .costs)) (r .category) p) (v .join .ensures ∙ ap (λ p. s .join p cost) (v .price .ensures)) (did .offered) in
+          simp (v .chart-is, v .costs-is) (
+            framed-then (s .neutral) (c .args .kinds) (inv .0) (did .framed),
+            grown-offer lawful (inv .1) offered (link-up j) (link-here j none (c .loop-rule-test .taken) (v .if-rule-part .taken) (v .if-not-done-category .taken))
+                (λ A x h. ⊎-elim inl (λ (q : (r .part ≡ part) × (getD done (r .category) false ≡ false) × (A ≡ r .category) × (x ≡ whole)). inr (q .2, q .3)) (link-cases j none A x h)),
+          )
       | else-rule-part v ↦
-        simp (v .chart-is, v .costs-is)
-        ( inv .0
-        , grown-same lawful (inv .1) (link-up j)
-          (λ A x h. ⊎-elim (λ k. k) (λ (q : (r .part ≡ part) × (getD done (r .category) false ≡ false) × (A ≡ r .category) × (x ≡ whole)). elim (v .else-rule-part .came) [
-            | else-rule-part·by·then-rule-part·else-not-done-category u ↦ absurd (not-both (u .if-not-done-category .left) (q .1))
-            | else-rule-part·by·else-rule-part u ↦ absurd (u .if-rule-part .left (q .0))
-          ]) (link-cases j none A x h))
-        )
+          simp (v .chart-is, v .costs-is) (
+            inv .0,
+            grown-same lawful (inv .1) (link-up j)
+                (λ A x h. ⊎-elim (λ k. k) (λ (q : (r .part ≡ part) × (getD done (r .category) false ≡ false) × (A ≡ r .category) × (x ≡ whole)). elim (v .else-rule-part .came) [
+                  | else-rule-part·by·then-rule-part·else-not-done-category u ↦ absurd (not-both (u .if-not-done-category .left) (q .1))
+                  | else-rule-part·by·else-rule-part u ↦ absurd (u .if-rule-part .left (q .0))
+                ]) (link-cases j none A x h)),
+          )
     ]

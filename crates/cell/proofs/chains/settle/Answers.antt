@@ -36,7 +36,7 @@ loop-found-again g c =
     let picked = c .in-Some .ensures tt in
     let inside : c .in-Some .found .0 < length (c .loop-found .done) = omega (arith, picked .0, c .pre .long, c .loop-found .kept .done) in
     let same : chart .categories ≡ kinds = inv .0 .alike .categories ∙ c .pre .placed .ready .same in
-    let in-range : (B : ℕ) (y : g .S·Cost .Denot) → col B ≡ Some y → B < kinds = λ B y is. let kind = m .sound .bounded (c .loop-found .chart) (c .args .b) (c .args .e) B (view-held (s .neutral) kinds chart (c .loop-found .costs) B (c .args .b) (c .args .e) y is .0) .kind in omega arith in
-    ( framed-then (s .neutral) kinds (inv .0) (did .framed)
-    , going-more {s = s} (g .S·Scale·met .lawful) {ok = ok} {rules = rules} {before = V (m .seen (c .args .chart .now)) (c .args .costs .now)} {col = col} {after = V (m .seen (c .relax .last .chart)) (c .relax .last .costs)} {done = c .loop-found .done} kinds in-range (c .in-Some .found .0) (c .in-Some .found .1) inside (inv .1) picked (did .grown)
+    let in-range : (B : ℕ) (y : g .S·Cost .Denot) → col B ≡ Some y → B < kinds = λ B y is. let kind = m .sound .bounded (c .loop-found .chart) (c .args .b) (c .args .e) B (view-held (s .neutral) kinds chart (c .loop-found .costs) B (c .args .b) (c .args .e) y is .0) .kind in omega arith in (
+      framed-then (s .neutral) kinds (inv .0) (did .framed),
+      going-more {s = s} (g .S·Scale·met .lawful) {ok = ok} {rules = rules} {before = V (m .seen (c .args .chart .now)) (c .args .costs .now)} {col = col} {after = V (m .seen (c .relax .last .chart)) (c .relax .last .costs)} {done = c .loop-found .done} kinds in-range (c .in-Some .found .0) (c .in-Some .found .1) inside (inv .1) picked (did .grown),
     )

@@ -30,17 +30,17 @@ loop-rule-again g c =
     let inv = c .loop-rule .inv in
     elim (c .if-rule-word .came) [
       | then-rule-word v ↦
-        let did = v .offer .ensures in
-        let offered = subst (λ p. Offered s ok (V (seen (c .loop-rule .chart)) (c .loop-rule .costs)) (V (seen (v .offer .last .chart)) (v .offer .last .costs)) (r .category) p) (v .price .ensures) (did .offered) in
-        simp (v .chart-is, v .costs-is)
-        ( framed-then (s .neutral) (c .args .kinds) (inv .0) (did .framed)
-        , grown-offer lawful (inv .1) offered (leaf-up j) (leaf-here j none (c .loop-rule-test .taken) (v .if-rule-word .taken))
-          (λ A x h. ⊎-elim inl (λ (q : (r .word ≡ w) × (A ≡ r .category) × (x ≡ s .price (r .weight))). inr (q .1, q .2)) (leaf-cases j none A x h))
-        )
+          let did = v .offer .ensures in
+          let offered = subst (λ p. Offered s ok (V (seen (c .loop-rule .chart)) (c .loop-rule .costs)) (V (seen (v .offer .last .chart)) (v .offer .last .costs)) (r .category) p) (v .price .ensures) (did .offered) in
+          simp (v .chart-is, v .costs-is) (
+            framed-then (s .neutral) (c .args .kinds) (inv .0) (did .framed),
+            grown-offer lawful (inv .1) offered (leaf-up j) (leaf-here j none (c .loop-rule-test .taken) (v .if-rule-word .taken))
+                (λ A x h. ⊎-elim inl (λ (q : (r .word ≡ w) × (A ≡ r .category) × (x ≡ s .price (r .weight))). inr (q .1, q .2)) (leaf-cases j none A x h)),
+          )
       | else-rule-word v ↦
-        simp (v .chart-is, v .costs-is)
-        ( inv .0
-        , grown-same lawful (inv .1) (leaf-up j)
-          (λ A x h. ⊎-elim (λ k. k) (λ (q : (r .word ≡ w) × (A ≡ r .category) × (x ≡ s .price (r .weight))). absurd (v .if-rule-word .left (q .0))) (leaf-cases j none A x h))
-        )
+          simp (v .chart-is, v .costs-is) (
+            inv .0,
+            grown-same lawful (inv .1) (leaf-up j)
+                (λ A x h. ⊎-elim (λ k. k) (λ (q : (r .word ≡ w) × (A ≡ r .category) × (x ≡ s .price (r .weight))). absurd (v .if-rule-word .left (q .0))) (leaf-cases j none A x h)),
+          )
     ]

@@ -35,10 +35,10 @@ loop-rung-again g c =
     let less : rung < length ladder = c .loop-rung-test .taken in
     let is : ceiling-at ladder rung ≡ Some (c .index-ladder-rung .result) = ceiling-inside ladder rung _ less ∙ ap Some (sym (c .index-ladder-rung .is)) in
     let did = c .in-rest .ensures tt in
-    let inv = c .loop-rung .inv in
-    ( did .room ∙ inv .0
-    , λ k past. did .tried .round .rest k past ∙ inv .1 k past
-    , failed-more {P = λ j. Fails s (grammar (c .args .rules .now)) (g .B·Bound .limit (c .args .bound .now)) ladder (c .args .text .now) j} rung (inv .2) (lacks-fails ladder rung is (did .tried))
+    let inv = c .loop-rung .inv in (
+      did .room ∙ inv .0,
+      λ k past. did .tried .round .rest k past ∙ inv .1 k past,
+      failed-more {P = λ j. Fails s (grammar (c .args .rules .now)) (g .B·Bound .limit (c .args .bound .now)) ladder (c .args .text .now) j} rung (inv .2) (lacks-fails ladder rung is (did .tried)),
     )
 
 pub returns-in-Some-attempt : need.returns-in-Some-attempt

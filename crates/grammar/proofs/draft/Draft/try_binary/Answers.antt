@@ -10,7 +10,7 @@ returns-in-Break-category c =
     let s = seen (c .args .self .now) in
     let t = seen (c .head .last .self) in
     let all : Tried (addingBinary s (c .args .weight) (c .args .category .now) (c .args .left .now) (c .args .right .now)) s (c .from-residual .result) t =
-        stop _ _ s t (c .in-Break-category .field-0 .0) (c .from-residual .result) (c .in-Break-category .ensures tt) (c .from-residual .ensures .1) in
+    stop _ _ s t (c .in-Break-category .field-0 .0) (c .from-residual .result) (c .in-Break-category .ensures tt) (c .from-residual .ensures .1) in
     all .does
 
 pub returns-in-Break-left : need.returns-in-Break-left
@@ -22,8 +22,8 @@ returns-in-Break-left c =
     let a = c .in-Continue-category .ensures tt in
     let n = headed s (c .args .category .now) (c .in-Continue-category .category) t a in
     let all : Tried (addingBinary s (c .args .weight) (c .args .category .now) (c .args .left .now) (c .args .right .now)) s r u =
-        on _ _ (c .in-Continue-category .category) s t u r a (n .0 .later)
-        (stop _ _ t u (c .in-Break-left .field-0 .0) r (c .in-Break-left .ensures tt) (c .from-residual-in-Break-left .ensures .1)) in
+    on _ _ (c .in-Continue-category .category) s t u r a (n .0 .later)
+    (stop _ _ t u (c .in-Break-left .field-0 .0) r (c .in-Break-left .ensures tt) (c .from-residual-in-Break-left .ensures .1)) in
     all .does
 
 pub returns-in-Break-right : need.returns-in-Break-right
@@ -38,9 +38,9 @@ returns-in-Break-right c =
     let n = headed s (c .args .category .now) (c .in-Continue-category .category) t a in
     let m = named First t (c .args .left .now) (c .in-Continue-left .left) u b in
     let all : Tried (addingBinary s (c .args .weight) (c .args .category .now) (c .args .left .now) (c .args .right .now)) s r v =
-        on _ _ (c .in-Continue-category .category) s t v r a (n .0 .later)
-        (on _ _ (c .in-Continue-left .left) t u v r b (m .later)
-        (stop _ _ u v (c .in-Break-right .field-0 .0) r (c .in-Break-right .ensures tt) (c .from-residual-in-Break-right .ensures .1))) in
+    on _ _ (c .in-Continue-category .category) s t v r a (n .0 .later)
+    (on _ _ (c .in-Continue-left .left) t u v r b (m .later)
+    (stop _ _ u v (c .in-Break-right .field-0 .0) r (c .in-Break-right .ensures tt) (c .from-residual-in-Break-right .ensures .1))) in
     all .does
 
 pub put-binary-requires : need.put-binary-requires
@@ -69,8 +69,8 @@ returns c =
     let m = named First t (c .args .left .now) (c .in-Continue-left .left) u b in
     let o = named Second u (c .args .right .now) (c .in-Continue-right .right) v d in
     let all : Tried (addingBinary s (c .args .weight) (c .args .category .now) (c .args .left .now) (c .args .right .now)) s r w =
-        on _ _ (c .in-Continue-category .category) s t w r a (n .0 .later)
-        (on _ _ (c .in-Continue-left .left) t u w r b (m .later)
-        (on _ _ (c .in-Continue-right .right) u v w r d (o .later)
-        (put-last _ v w r (c .put-binary .ensures)))) in
+    on _ _ (c .in-Continue-category .category) s t w r a (n .0 .later)
+    (on _ _ (c .in-Continue-left .left) t u w r b (m .later)
+    (on _ _ (c .in-Continue-right .right) u v w r d (o .later)
+    (put-last _ v w r (c .put-binary .ensures)))) in
     all .does

@@ -10,7 +10,7 @@ returns-in-Break-category c =
     let s = seen (c .args .self .now) in
     let t = seen (c .head .last .self) in
     let all : Tried (addingChain s (c .args .weight) (c .args .category .now) (c .args .part .now)) s (c .from-residual .result) t =
-        stop _ _ s t (c .in-Break-category .field-0 .0) (c .from-residual .result) (c .in-Break-category .ensures tt) (c .from-residual .ensures .1) in
+    stop _ _ s t (c .in-Break-category .field-0 .0) (c .from-residual .result) (c .in-Break-category .ensures tt) (c .from-residual .ensures .1) in
     all .does
 
 pub returns-in-Break-part : need.returns-in-Break-part
@@ -22,8 +22,8 @@ returns-in-Break-part c =
     let a = c .in-Continue-category .ensures tt in
     let n = headed s (c .args .category .now) (c .in-Continue-category .category) t a in
     let all : Tried (addingChain s (c .args .weight) (c .args .category .now) (c .args .part .now)) s r u =
-        on _ _ (c .in-Continue-category .category) s t u r a (n .0 .later)
-        (stop _ _ t u (c .in-Break-part .field-0 .0) r (c .in-Break-part .ensures tt) (c .from-residual-in-Break-part .ensures .1)) in
+    on _ _ (c .in-Continue-category .category) s t u r a (n .0 .later)
+    (stop _ _ t u (c .in-Break-part .field-0 .0) r (c .in-Break-part .ensures tt) (c .from-residual-in-Break-part .ensures .1)) in
     all .does
 
 pub put-chain-requires : need.put-chain-requires
@@ -47,7 +47,7 @@ returns c =
     let n = headed s (c .args .category .now) (c .in-Continue-category .category) t a in
     let m = named First t (c .args .part .now) (c .in-Continue-part .part) u b in
     let all : Tried (addingChain s (c .args .weight) (c .args .category .now) (c .args .part .now)) s r v =
-        on _ _ (c .in-Continue-category .category) s t v r a (n .0 .later)
-        (on _ _ (c .in-Continue-part .part) t u v r b (m .later)
-        (put-last _ u v r (c .put-chain .ensures))) in
+    on _ _ (c .in-Continue-category .category) s t v r a (n .0 .later)
+    (on _ _ (c .in-Continue-part .part) t u v r b (m .later)
+    (put-last _ u v r (c .put-chain .ensures))) in
     all .does

@@ -9,7 +9,7 @@ returns-in-Break-category c =
     let s = seen (c .args .self .now) in
     let t = seen (c .head .last .self) in
     let all : Tried (addingLexical s (c .args .weight) (c .args .category .now) (c .args .word .now)) s (c .from-residual .result) t =
-        stop _ _ s t (c .in-Break-category .field-0 .0) (c .from-residual .result) (c .in-Break-category .ensures tt) (c .from-residual .ensures .1) in
+    stop _ _ s t (c .in-Break-category .field-0 .0) (c .from-residual .result) (c .in-Break-category .ensures tt) (c .from-residual .ensures .1) in
     all .does
 
 pub returns-in-Break-word : need.returns-in-Break-word
@@ -21,8 +21,8 @@ returns-in-Break-word c =
     let a = c .in-Continue-category .ensures tt in
     let n = headed s (c .args .category .now) (c .in-Continue-category .category) t a in
     let all : Tried (addingLexical s (c .args .weight) (c .args .category .now) (c .args .word .now)) s r u =
-        on _ _ (c .in-Continue-category .category) s t u r a (n .0 .later)
-        (stop _ _ t u (c .in-Break-word .field-0 .0) r (c .in-Break-word .ensures tt) (c .from-residual-in-Break-word .ensures .1)) in
+    on _ _ (c .in-Continue-category .category) s t u r a (n .0 .later)
+    (stop _ _ t u (c .in-Break-word .field-0 .0) r (c .in-Break-word .ensures tt) (c .from-residual-in-Break-word .ensures .1)) in
     all .does
 
 pub put-lexical-requires : need.put-lexical-requires
@@ -46,7 +46,7 @@ returns c =
     let n = headed s (c .args .category .now) (c .in-Continue-category .category) t a in
     let m = worded t (c .args .word .now) (c .in-Continue-word .word) u b in
     let all : Tried (addingLexical s (c .args .weight) (c .args .category .now) (c .args .word .now)) s r v =
-        on _ _ (c .in-Continue-category .category) s t v r a (n .0 .later)
-        (on _ _ (c .in-Continue-word .word) t u v r b (m .later)
-        (put-last _ u v r (c .put-lexical .ensures))) in
+    on _ _ (c .in-Continue-category .category) s t v r a (n .0 .later)
+    (on _ _ (c .in-Continue-word .word) t u v r b (m .later)
+    (put-last _ u v r (c .put-lexical .ensures))) in
     all .does

@@ -9,7 +9,7 @@ returns-in-Break-category c =
     let s = seen (c .args .self .now) in
     let t = seen (c .category .last .self) in
     let all : Tried (addingTop s (c .args .category .now)) s (c .from-residual .result) t =
-        stop _ _ s t (c .in-Break-category .field-0 .0) (c .from-residual .result) (c .in-Break-category .ensures tt) (c .from-residual .ensures .1) in
+    stop _ _ s t (c .in-Break-category .field-0 .0) (c .from-residual .result) (c .in-Break-category .ensures tt) (c .from-residual .ensures .1) in
     all .does
 
 pub put-top-requires : need.put-top-requires

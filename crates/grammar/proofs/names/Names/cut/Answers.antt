@@ -1,9 +1,7 @@
-use mathlib.Core.Path.{_≡_, sym, subst₂}
-use mathlib.Core.Bool.{true}
+use mathlib.Core.Path.{_≡_}
 use native.Mathlib.Omega.{arith}
 use Rattle.std.specs.Of.Vec.{vec-len}
-use Rattle.grammar.specs.Places.{tiles}
-use Rattle.grammar.proofs.Named.{by-parts, inside, cut-tiles, cut-names, uncut}
+use Rattle.grammar.proofs.Named.{by-parts, by-places, inside, cut-tiles, cut-names, uncut}
 use Rattle.grammar.proofs.names.Names.cut.Needs as need
 
 pub ghost-self : need.ghost-self
@@ -12,7 +10,7 @@ ghost-self c =
     let p = c .index .result .now in
     let i = inside n (c .args .n) p (omega arith) (c .index .ensures) in
     let long : vec-len (c .truncate-then-n-len .last .self) ≡ p .start = omega (arith, c .truncate-then-n-len .ensures .len) in
-    (subst₂ (λ ps m. tiles 0 ps m ≡ true) (sym (c .truncate .ensures .items)) (sym long) (cut-tiles n (c .args .n) p (omega arith) (c .index .ensures)), tt)
+    (by-places (c .truncate .ensures .items) long (cut-tiles n (c .args .n) p (omega arith) (c .index .ensures)), tt)
 
 pub returns-then-n-len : need.returns-then-n-len
 returns-then-n-len c =

@@ -1,9 +1,8 @@
 use mathlib.Core.Path.{_≡_, sym, ap, _∙_}
-use Prim.Native.Nat.{_<_}
 use native.Mathlib.Omega.{arith}
 use mathlib.Core.Bool.{true, false}
 use mathlib.Core.List.{[]}
-use lib.ListN.{length, getD}
+use lib.ListN.{getD}
 use Rattle.std.specs.shelf.Text.{sameBytes}
 use Rattle.grammar.specs.Listed.{listed}
 use Rattle.grammar.proofs.Named.{count, passed, found, missed}

@@ -1,9 +1,6 @@
 use Prim.Native.Nat.{_+_}
 use mathlib.Core.Path.{_≡_}
-use mathlib.Core.Bool.{not}
 use lib.ListN.{drop}
-use Rattle.std.specs.shelf.Lists.{leading}
-use Rattle.std.specs.shelf.Text.{sameBytes}
 use Rattle.grammar.specs.Places.{numberOf}
 use Rattle.grammar.specs.Listed.{listed}
 use Rattle.grammar.proofs.names.Names.number.Given as given

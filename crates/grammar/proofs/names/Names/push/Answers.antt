@@ -1,17 +1,15 @@
-use mathlib.Core.Path.{_≡_, refl, sym, ap, subst₂, _∙_}
-use mathlib.Core.Bool.{true}
+use mathlib.Core.Path.{_≡_, refl, sym, ap, _∙_}
 use native.Mathlib.Omega.{arith}
 use lib.ListN.{take, length}
-use Rattle.std.specs.Of.Vec.{vec-items, vec-len}
+use Rattle.std.specs.Of.Vec.{vec-items}
 use Rattle.std.proofs.shelf.Lists.{take-at}
-use Rattle.grammar.specs.Places.{tiles}
-use Rattle.grammar.proofs.Named.{push-tiles, push-names, by-parts}
+use Rattle.grammar.proofs.Named.{push-tiles, push-names, by-parts, by-places}
 use Rattle.grammar.proofs.names.Names.push.Needs as need
 
 pub ghost-self-in-Ok : need.ghost-self-in-Ok
 ghost-self-in-Ok c =
     let more = c .in-Continue-extend-from-slice .ensures tt .len in
-    (subst₂ (λ ps m. tiles 0 ps m ≡ true) (sym (c .in-Ok .ensures tt .items)) (c .len-end .ensures) (push-tiles (c .args .self .now) (c .len-start .result) (c .len-end .result) (c .len-start .ensures) (omega arith)), tt)
+    (by-places (c .in-Ok .ensures tt .items) (sym (c .len-end .ensures)) (push-tiles (c .args .self .now) (c .len-start .result) (c .len-end .result) (c .len-start .ensures) (omega arith)), tt)
 
 pub returns-in-Ok : need.returns-in-Ok
 returns-in-Ok c =

@@ -2,7 +2,7 @@ use borrow.Author.Needs.{needs}
 use mathlib.Core.Path.{sym, ap, _∙_}
 use native.Mathlib.Omega.{arith}
 use lib.ListN.{take, drop}
-use Prim.Native.Nat.{_-_, _<_}
+use Prim.Native.Nat.{_-_}
 use Rattle.std.specs.Of.Vec.{vec-len}
 use Rattle.grammar.proofs.Named.{inside, read, past}
 use Rattle.grammar.proofs.Tiles.{Inside}
