@@ -35,10 +35,10 @@ module _ {Cost : Type 0} (s : Scale Cost) where
 
   pub rises-tells : (ladder : List Cost) → rises s ladder ≡ true → Rising s ladder
   rises-tells [] t = record { step = λ k low high is is′. absurd (none-some refl is) }
-  rises-tells (t ∷ []) is-true = record { step = λ k low high is is′. absurd (past k is′) }
+  rises-tells (t ∷ []) is-true = record { step = λ k low high is is′. absurd (past t k is′) }
     where
-      past : {u v : Cost} (k : ℕ) → ceiling-at (u ∷ []) (k + 1) ≡ Some v → ⊥
-      past {u} {v} k is = let q : k + 1 ≡ suc k = omega arith in none-some refl (subst (λ (n : ℕ). ceiling-at (u ∷ []) n ≡ Some v) q is)
+      past : (u : Cost) (k : ℕ) {v : Cost} → ceiling-at (u ∷ []) (k + 1) ≡ Some v → ⊥
+      past u k {v} is = let q : k + 1 ≡ suc k = omega arith in none-some refl (subst (λ (n : ℕ). ceiling-at (u ∷ []) n ≡ Some v) q is)
   rises-tells (t ∷ u ∷ ladder) is-true =
       let both = and-parts (s .above u t) (rises s (u ∷ ladder)) is-true in
       let rest = rises-tells (u ∷ ladder) (both .1) in

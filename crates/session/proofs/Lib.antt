@@ -1,3 +1,5 @@
+pub mod Backs
 pub mod Ladders
 pub mod Promise
 pub mod Runs
+pub mod Words

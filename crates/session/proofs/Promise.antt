@@ -36,7 +36,7 @@ use Rattle.session.specs.Cheapest.{Whole, Handed, Able, Cheapest}
 use Rattle.session.proofs.Ladders.{rises-tells, rising-rises}
 
 -- a request that is not declined passed each test
-not-declined : (a b c d : Bool) → cond a (cond b (Some NoWords) (cond c (cond d (None {T = Refusal}) (Some TooSmall)) (Some WrongLadder))) (Some OtherGrammar) ≡ None → (c ≡ true) × (d ≡ true)
+not-declined : (a b c d : Bool) → _≡_ {A = Option Refusal} (cond a (cond b (Some NoWords) (cond c (cond d None (Some TooSmall)) (Some WrongLadder))) (Some OtherGrammar)) None → (c ≡ true) × (d ≡ true)
 not-declined true true c d is = let f : _≡_ {A = ℕ} 0 1 = ap (λ (o : Option Refusal). cond (isSome o) 0 1) is in absurd (omega arith)
 not-declined true false true true is = (refl, refl)
 not-declined true false true false is = let f : _≡_ {A = ℕ} 0 1 = ap (λ (o : Option Refusal). cond (isSome o) 0 1) is in absurd (omega arith)
@@ -44,7 +44,7 @@ not-declined true false false d is = let f : _≡_ {A = ℕ} 0 1 = ap (λ (o : O
 not-declined false b c d is = let f : _≡_ {A = ℕ} 0 1 = ap (λ (o : Option Refusal). cond (isSome o) 0 1) is in absurd (omega arith)
 
 -- and none is declined as underivable
-never-19 : (a b c d : Bool) → cond a (cond b (Some NoWords) (cond c (cond d (None {T = Refusal}) (Some TooSmall)) (Some WrongLadder))) (Some OtherGrammar) ≡ Some NoDerivation → ⊥
+never-19 : (a b c d : Bool) → _≡_ {A = Option Refusal} (cond a (cond b (Some NoWords) (cond c (cond d None (Some TooSmall)) (Some WrongLadder))) (Some OtherGrammar)) (Some NoDerivation) → ⊥
 never-19 true true c d is = let f : _≡_ {A = ℕ} 0 1 = cc in omega arith
 never-19 true false true true is = let f : _≡_ {A = ℕ} 0 1 = cc in omega arith
 never-19 true false true false is = let f : _≡_ {A = ℕ} 0 1 = cc in omega arith
@@ -129,3 +129,13 @@ module _ {Cost : Type 0} {s : Scale Cost} (lawful : Lawful s) (o : Over) (entry 
     pub cheapest-asked : (d : Option Refusal) (answer : Result (Tree Cost) Refusal) → declined s o (before .session) ladder z ≡ d → Asked s o entry ladder before after d answer → Cheapest s (o .grammar) entry ladder (before .session .held) z (after .nodes) answer
     cheapest-asked None answer is asked = cheapest-searched answer is asked
     cheapest-asked (Some r) answer is asked = cheapest-declined r answer is (asked .0)
+
+-- a request that is not declined brings enough
+pub fits-in : {Cost : Type 0} (s : Scale Cost) (o : Over) (t : State) (ladder : List Cost) (z : Sizes) → declined s o t ladder z ≡ None → (length (t .held) ≤ z .room) × (length (t .held) * (length (t .held) + 1) / 2 * o .grammar .categories ≤ z .costs) × ((2 * length (t .held) - 1) * o .grammar .categories ≤ z .nodes)
+fits-in s o t ladder z free =
+    let n = length (t .held) in
+    let g = o .grammar .categories in
+    let tests = not-declined (fits o t) (eqb n 0) (leb (length ladder) 16 && rises s ladder) (enough n g z) free in
+    let both = and-parts (leb n (z .room) && leb n (z .span)) (leb (n * (n + 1) / 2 * g) (z .costs) && leb ((2 * n - 1) * g) (z .nodes)) (tests .1) in
+    let rest = and-parts (leb (n * (n + 1) / 2 * g) (z .costs)) (leb ((2 * n - 1) * g) (z .nodes)) (both .1) in
+    (leb-true n (z .room) (and-parts (leb n (z .room)) (leb n (z .span)) (both .0) .0), leb-true _ (z .costs) (rest .0), leb-true _ (z .nodes) (rest .1))

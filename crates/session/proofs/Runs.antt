@@ -38,7 +38,7 @@ chosen-number true s t is = is
 chosen-number false s t is = refl
 
 -- a trial that is not refused was let through by its tests
-pub not-refused : (a b c : Bool) (x y z : Refusal) → cond a (cond b (cond c (None {T = Refusal}) (Some x)) (Some y)) (Some z) ≡ None → (b ≡ true) × (c ≡ true)
+pub not-refused : (a b c : Bool) (x y z : Refusal) → _≡_ {A = Option Refusal} (cond a (cond b (cond c None (Some x)) (Some y)) (Some z)) None → (b ≡ true) × (c ≡ true)
 not-refused true true true x y z is = (refl, refl)
 not-refused true true false x y z is = let f : _≡_ {A = ℕ} 0 1 = ap (λ (o : Option Refusal). cond (isSome o) 0 1) is in absurd (omega arith)
 not-refused true false c x y z is = let f : _≡_ {A = ℕ} 0 1 = ap (λ (o : Option Refusal). cond (isSome o) 0 1) is in absurd (omega arith)
@@ -93,9 +93,9 @@ after-short o ws (trial place w n undecided) h = h
 after-short o ws (refused-trial place w) h = h
 after-short o ws request h = h
 
-held-append : (o : Over) (ws : List ℕ) (calls more : List Call) → held-from o ws (calls ++ more) ≡ held-from o (held-from o ws calls) more
-held-append o ws [] more = refl
-held-append o ws (c ∷ calls) more = held-append o (after o ws c) calls more
+held-append : (o : Over) (ws : List ℕ) (calls rest : List Call) → held-from o ws (calls ++ rest) ≡ held-from o (held-from o ws calls) rest
+held-append o ws [] rest = refl
+held-append o ws (c ∷ calls) rest = held-append o (after o ws c) calls rest
 
 pub record Led (o : Over) (calls : List Call) (s : State) : Type 0 where
   pub words : s .held ≡ held o calls

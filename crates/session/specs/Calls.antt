@@ -48,7 +48,7 @@ tried o s place w = cond (isSome (refusing o s place w)) s (holding s (replaced 
 
 -- once a trial ends that was not kept: the earlier word stands again, unless the trial was refused
 abbrev pub back : Option Refusal → State → ℕ → ℕ → State
-back refused s place earlier = cond (isSome refused) s (holding s (replaced (s .held) place earlier))
+back refused s place earlier = cond (isSome refused) s (cond (leb 1 place && leb place (length (s .held))) (holding s (replaced (s .held) place earlier)) s)
 
 -- one tree more was handed out; the tally stays at its largest
 abbrev pub counted : State → State

@@ -93,9 +93,7 @@ impl Session {
         if let Some(refusal) = self.declines::<S>(grammar, ladder, sizes) {
             return Err(refusal);
         }
-        match best::<S, C, B>(
-            grammar.rules(),
-            &self.words[0..self.len],
+        match best::<S, C, B>(grammar.rules(), self.words(),
             bound,
             ladder,
             chart,
