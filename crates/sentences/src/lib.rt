@@ -8,7 +8,10 @@ mod spelling;
 use cursor::Cursor;
 use grammar::Draft;
 use lines::ScaleName;
+use preamble::Preamble;
 use preamble::read_preamble;
+use printing::SumWritten;
+use printing::WorstWritten;
 use scale::Sum;
 use scale::Worst;
 use serving::refuse_all;
@@ -25,30 +28,16 @@ const CATEGORIES: usize = 32;
 pub fn answers(heap: Global, text: &[u8]) -> Result<Vec<u8>, AllocError> {
     let mut out = Vec::new(heap);
     let mut cursor = Cursor::new(text);
-    let preamble = read_preamble(
-        heap,
-        &mut cursor,
-        Draft::new(heap, NUMBER, CATEGORIES),
-        &mut out,
-    )?;
-    match preamble.draft.close() {
-        Ok(mut grammar) => match preamble.scale {
-            ScaleName::Sum => serve::<Sum>(
-                heap,
-                &mut cursor,
-                &mut grammar,
-                preamble.ladder.as_slice(),
-                &mut out,
-            )?,
-            ScaleName::Worst => serve::<Worst>(
-                heap,
-                &mut cursor,
-                &mut grammar,
-                preamble.ladder.as_slice(),
-                &mut out,
-            )?,
+    let Preamble { draft, scale, ladder } = read_preamble(heap, &mut cursor, Draft::new(heap, NUMBER, CATEGORIES), &mut out)?;
+    match draft.close() {
+        Ok(mut grammar) => match scale {
+            ScaleName::Sum => serve::<Sum>(heap, &mut cursor, &mut grammar, ladder.as_slice(), &mut out)?,
+            ScaleName::Worst => serve::<Worst>(heap, &mut cursor, &mut grammar, ladder.as_slice(), &mut out)?,
         },
-        Err((fault, _)) => refuse_all(heap, &mut cursor, fault.refusal, &mut out)?,
+        Err(back) => {
+            let (fault, _draft) = back;
+            refuse_all(heap, &mut cursor, fault.refusal, &mut out)?;
+        }
     }
     Ok(out)
 }

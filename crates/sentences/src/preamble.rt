@@ -1,5 +1,4 @@
 // The lines before the first sentence: the grammar, the scale and the ladder.
-ghost use Prim.Native.Nat.{ℕ};
 use crate::cursor::Cursor;
 use crate::printing::refused;
 use grammar::Draft;
@@ -27,6 +26,7 @@ struct Options {
 }
 
 // Whether a sentence comes next.
+#[derive(Drop)]
 enum Next {
     Sentence,
     Line,
@@ -54,33 +54,28 @@ fn take_line(
     Ok(Next::Line)
 }
 
-// Reads up to the first sentence that is free of faults of text and form, and not past it.
-pub fn read_preamble(
-    heap: Global,
-    cursor: &mut Cursor<'_>,
-    mut draft: Draft,
-    out: &mut Vec<u8>,
-) -> Result<Preamble, AllocError> {
-    let mut options = Options {
-        scale: None,
-        ladder: None,
-    };
+// Takes the lines up to the first sentence that is free of faults of text and form, and not past it.
+fn take_lines(heap: Global, cursor: &mut Cursor<'_>, draft: &mut Draft, options: &mut Options, out: &mut Vec<u8>) -> Result<(), AllocError> {
     while let Some(line) = cursor.peek() {
-        match take_line(heap, line, &mut draft, &mut options) {
-            Ok(Next::Sentence) => break,
+        match take_line(heap, line, draft, options) {
+            Ok(Next::Sentence) => return Ok(()),
             Ok(Next::Line) => {}
             Err(Stop::Memory) => return Err(AllocError),
             Err(Stop::Refusal(fault)) => refused(heap, out, fault.refusal, cursor.line())?,
         }
         cursor.skip();
     }
-    let ladder = match options.ladder {
+    Ok(())
+}
+
+// Reads all that comes before the first sentence; sums and no ceilings stand where nothing else is said.
+pub fn read_preamble(heap: Global, cursor: &mut Cursor<'_>, mut draft: Draft, out: &mut Vec<u8>) -> Result<Preamble, AllocError> {
+    let mut options = Options { scale: None, ladder: None };
+    take_lines(heap, cursor, &mut draft, &mut options, out)?;
+    let Options { scale, ladder } = options;
+    let ladder = match ladder {
         Some(ceilings) => ceilings,
         None => Vec::new(heap),
     };
-    Ok(Preamble {
-        draft,
-        scale: options.scale.unwrap_or(ScaleName::Sum),
-        ladder,
-    })
+    Ok(Preamble { draft, scale: scale.unwrap_or(ScaleName::Sum), ladder })
 }

@@ -1,4 +1,5 @@
 // The lines from the first sentence on: each sentence is put word by word, and then its tree is asked for.
+ghost use mathlib.Core.Path.{_≡_};
 use crate::cursor::Cursor;
 use crate::printing::Written;
 use crate::printing::handed;
@@ -11,6 +12,7 @@ use chart::ByteChartChart;
 use grammar::Closed;
 use lines::Allowed;
 use lines::Form;
+use lines::LineFault;
 use lines::Span;
 use lines::Stop;
 use lines::read_line;
@@ -37,6 +39,15 @@ struct Desk<Cost> {
     nodes: Vec<Node>,
 }
 
+// So many neutral costs.
+fn neutral<S: Scale>(heap: Global, count: usize) -> Result<Vec<S::Cost>, AllocError> {
+    let mut costs = Vec::with_capacity(heap, count)?;
+    for _ in 0..count {
+        costs.push(S::start())?;
+    }
+    Ok(costs)
+}
+
 // The costs of the ladder's weights.
 fn priced<S: Scale>(heap: Global, weights: &[u16]) -> Result<Vec<S::Cost>, AllocError> {
     let mut ladder = Vec::new(heap);
@@ -46,7 +57,7 @@ fn priced<S: Scale>(heap: Global, weights: &[u16]) -> Result<Vec<S::Cost>, Alloc
     Ok(ladder)
 }
 
-fn desk<S: Scale>(
+fn set_up<S: Scale>(
     heap: Global,
     weights: &[u16],
     categories: usize,
@@ -61,13 +72,15 @@ fn desk<S: Scale>(
     Ok(Desk {
         ladder: priced::<S>(heap, weights)?,
         bytes: vec![in heap; 0u8; CELLS * 64]?,
-        costs: vec![in heap; S::start(); CELLS.saturating_mul(categories)]?,
+        costs: neutral::<S>(heap, CELLS.saturating_mul(categories))?,
         nodes: vec![in heap; blank; (2 * WORDS - 1).saturating_mul(categories)]?,
     })
 }
 
 // Puts the word that is spelt so; the program holds fewer words than a session does.
-fn put(grammar: &Closed, session: &mut Session, spelling: &[u8]) -> Result<usize, Refusal> {
+fn put(grammar: &Closed, session: &mut Session, spelling: &[u8]) -> Result<usize, Refusal>
+    ensures { λ _. ⌜ now (session .exit) .number ≡ now (session .entry) .number ⌝ }
+{
     let Some(word) = grammar.word(spelling) else {
         return Err(Refusal::UnknownWord);
     };
@@ -83,7 +96,9 @@ fn hold(
     session: &mut Session,
     line: &[u8],
     words: &[Span],
-) -> Result<(), Refusal> {
+) -> Result<(), Refusal>
+    ensures { λ _. ⌜ now (session .exit) .number ≡ now (session .entry) .number ⌝ }
+{
     let held = session.words().len();
     let _ = session.take_back(grammar, held)?;
     for span in words {
@@ -99,7 +114,9 @@ fn parse<S: Scale>(
     desk: &mut Desk<S::Cost>,
     line: &[u8],
     words: &[Span],
-) -> Result<Tree<S::Cost>, Refusal> {
+) -> Result<Tree<S::Cost>, Refusal>
+    ensures { λ _. ⌜ now (session .exit) .number ≡ now (session .entry) .number ⌝ }
+{
     hold(grammar, session, line, words)?;
     let mut chart = ByteChart::new(&mut desk.bytes);
     session.tree::<S, ByteChart<'_>, Floor>(
@@ -122,7 +139,9 @@ fn say<S: Written>(
     words: &[Span],
     number: usize,
     out: &mut Vec<u8>,
-) -> Result<(), AllocError> {
+) -> Result<(), AllocError>
+    ensures { λ _. ⌜ now (session .exit) .number ≡ now (session .entry) .number ⌝ }
+{
     match parse::<S>(grammar, session, desk, line, words) {
         Ok(tree) => {
             let names = Spelt {
@@ -135,6 +154,23 @@ fn say<S: Written>(
     }
 }
 
+// The words of a sentence; none where the form is another.
+fn spoken(form: Form) -> Option<Vec<Span>> {
+    match form {
+        Form::Say(words) => Some(words),
+        Form::Top { .. } | Form::Chain { .. } | Form::Binary { .. } | Form::Lexical { .. } | Form::Scale(_) | Form::Ladder(_) => None,
+    }
+}
+
+// The words of a line after closing, where every head but one is at a wrong place; none where it is blank.
+fn sentence(heap: Global, line: &[u8]) -> Result<Option<Vec<Span>>, Stop<LineFault>> {
+    let allowed = Allowed { grammar: false, scale: false, ladder: false };
+    match read_line(heap, line, allowed)? {
+        Some(form) => Ok(spoken(form)),
+        None => Ok(None),
+    }
+}
+
 // Answers each sentence, and refuses every other line.
 fn answer<S: Written>(
     heap: Global,
@@ -143,16 +179,13 @@ fn answer<S: Written>(
     session: &mut Session,
     weights: &[u16],
     out: &mut Vec<u8>,
-) -> Result<(), AllocError> {
-    let mut desk = desk::<S>(heap, weights, grammar.rules().categories)?;
-    let allowed = Allowed {
-        grammar: false,
-        scale: false,
-        ladder: false,
-    };
+) -> Result<(), AllocError>
+    ensures { λ _. ⌜ now (session .exit) .number ≡ now (session .entry) .number ⌝ }
+{
+    let mut desk = set_up::<S>(heap, weights, grammar.rules().categories)?;
     while let Some(line) = cursor.peek() {
-        match read_line(heap, line, allowed) {
-            Ok(Some(Form::Say(words))) => say::<S>(
+        match sentence(heap, line) {
+            Ok(Some(words)) => say::<S>(
                 heap,
                 grammar,
                 session,
@@ -162,7 +195,7 @@ fn answer<S: Written>(
                 cursor.line(),
                 out,
             )?,
-            Ok(_) => {}
+            Ok(None) => {}
             Err(Stop::Memory) => return Err(AllocError),
             Err(Stop::Refusal(fault)) => refused(heap, out, fault.refusal, cursor.line())?,
         }
@@ -197,14 +230,9 @@ pub fn refuse_all(
     refusal: Refusal,
     out: &mut Vec<u8>,
 ) -> Result<(), AllocError> {
-    let allowed = Allowed {
-        grammar: false,
-        scale: false,
-        ladder: false,
-    };
     while let Some(line) = cursor.peek() {
-        match read_line(heap, line, allowed) {
-            Ok(Some(_)) => refused(heap, out, refusal, cursor.line())?,
+        match sentence(heap, line) {
+            Ok(Some(_words)) => refused(heap, out, refusal, cursor.line())?,
             Ok(None) => {}
             Err(Stop::Memory) => return Err(AllocError),
             Err(Stop::Refusal(fault)) => refused(heap, out, fault.refusal, cursor.line())?,

@@ -7,6 +7,10 @@ ghost use Rattle.grammar.specs.Listed.{listed};
 use grammar::Closed;
 use render::Spelling;
 
+// A number that no word has: a grammar has at most 512.
+const NO_WORD: u16 = 65535;
+
+#[derive(Drop)]
 pub struct Spelt<'a> {
     pub grammar: &'a Closed,
     pub words: &'a [u16],
@@ -22,10 +26,7 @@ pub impl Spelling for Spelt<'_> as SpeltSpelling {
     }
 
     fn word(&self, place: usize) -> &[u8] {
-        let word = self.words
-            .get(place.saturating_sub(1))
-            .copied()
-            .unwrap_or(65535);
-        self.grammar.word_name(word)
+        let at = place.saturating_sub(1);
+        if at < self.words.len() { self.grammar.word_name(self.words[at]) } else { self.grammar.word_name(NO_WORD) }
     }
 }

@@ -45,6 +45,7 @@ impl Session {
     pub fn put(&mut self, grammar: &Closed, word: u16) -> Result<usize, Refusal>
         ensures answer { λ r. ⌜ r ≡ putting (over (now (grammar .entry))) (state (now (self .entry))) word ⌝ }
         ensures after { λ _. ⌜ state (now (self .exit)) ≡ after-put (over (now (grammar .entry))) (state (now (self .entry))) word ⌝ }
+        ensures number { λ _. ⌜ now (self .exit) .number ≡ now (self .entry) .number ⌝ }
     {
         if self.number != grammar.number() {
             return Err(Refusal::OtherGrammar);
@@ -65,6 +66,7 @@ impl Session {
     pub fn take_back(&mut self, grammar: &Closed, k: usize) -> Result<usize, Refusal>
         ensures answer { λ r. ⌜ r ≡ taking (over (now (grammar .entry))) (state (now (self .entry))) k ⌝ }
         ensures after { λ _. ⌜ state (now (self .exit)) ≡ taken (over (now (grammar .entry))) (state (now (self .entry))) k ⌝ }
+        ensures number { λ _. ⌜ now (self .exit) .number ≡ now (self .entry) .number ⌝ }
     {
         if self.number != grammar.number() {
             return Err(Refusal::OtherGrammar);

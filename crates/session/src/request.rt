@@ -82,6 +82,7 @@ impl Session {
         nodes: &mut [Node],
     ) -> Result<Tree<S::Cost>, Refusal>
         ensures asked { λ r. ⌜ Asked scale (over (now (grammar .entry))) (limit (now (bound .entry))) (now (ladder .entry)) (record { session = state (now (self .entry)); chart = seen (now (chart .entry)); costs = now (costs .entry); nodes = now (nodes .entry) }) (record { session = state (now (self .exit)); chart = seen (now (chart .exit)); costs = now (costs .exit); nodes = now (nodes .exit) }) (declined scale (over (now (grammar .entry))) (state (now (self .entry))) (now (ladder .entry)) (record { room = seen (now (chart .entry)) .room; span = reach (now (bound .entry)); costs = length (now (costs .entry)); nodes = length (now (nodes .entry)) })) r ⌝ }
+        ensures number { λ _. ⌜ now (self .exit) .number ≡ now (self .entry) .number ⌝ }
         ensures cheapest { λ r. ⌜ ((calls : List Call) → Leads (over (now (grammar .entry))) calls (state (now (self .entry))) → made (now (bound .entry)) (over (now (grammar .entry)) .grammar) → Cheapest scale (over (now (grammar .entry)) .grammar) (limit (now (bound .entry))) (now (ladder .entry)) (held (over (now (grammar .entry))) calls) (record { room = seen (now (chart .entry)) .room; span = reach (now (bound .entry)); costs = length (now (costs .entry)); nodes = length (now (nodes .entry)) }) (now (nodes .exit)) r) ⌝ }
     {
         let sizes = Sizes {

@@ -1,4 +1,4 @@
-use mathlib.Core.Path.{_≡_, sym, ap, _∙_}
+use mathlib.Core.Path.{_≡_, refl, sym, ap, _∙_}
 use mathlib.Core.Bool.{Bool, true, cond}
 use mathlib.Core.List.{List, [], _∷_, _++_}
 use Prim.Native.Nat.{ℕ, _+_, _<_}
@@ -23,5 +23,6 @@ returns c =
     let ok : isOk (putting o (state s) w) ≡ true = ap isOk (sym answer) in
     record {
       answer = answer;
+      number = refl;
       after = ap (λ (ws : List ℕ). holding (state s) ws) (take-more-set (s .words) (s .len) w lt) ∙ sym (ap (λ (b : Bool). cond b (holding (state s) (take (s .len) (s .words) ++ (w ∷ []))) (state s)) ok);
     }

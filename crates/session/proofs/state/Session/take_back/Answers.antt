@@ -1,4 +1,4 @@
-use mathlib.Core.Path.{_≡_, sym, ap, _∙_}
+use mathlib.Core.Path.{_≡_, refl, sym, ap, _∙_}
 use mathlib.Core.Bool.{Bool, true, cond}
 use mathlib.Core.List.{List}
 use Prim.Native.Nat.{ℕ, _-_, _≤_}
@@ -24,5 +24,6 @@ returns c =
     let words : take (s .len - k) (s .words) ≡ take (length (take (s .len) (s .words)) - k) (take (s .len) (s .words)) = rw (e, take-take) in
     record {
       answer = answer;
+      number = refl;
       after = ap (λ (ws : List ℕ). holding (state s) ws) words ∙ sym (ap (λ (b : Bool). cond b (holding (state s) (take (length (take (s .len) (s .words)) - k) (take (s .len) (s .words)))) (state s)) ok);
     }

@@ -38,6 +38,7 @@ returns-in-Some g c =
     let answer : Result (Tree (g .S·Cost .Denot)) Refusal = Err (c .in-Some .refusal) in
     record {
       asked = subst (λ (d : Option Refusal). Asked s o entry ladder before before d answer) (sym is) (refl, refl);
+      number = refl;
       cheapest = λ calls leads made.
         let l = led leads in
         subst (λ (ws : List ℕ). Cheapest s (o .grammar) entry ladder ws z (before .nodes) answer) (l .words) (cheapest-asked (g .S·Scale·met .lawful) o entry ladder before before z (c .span .ensures .law (o .grammar) made) (l .number) (Some (c .in-Some .refusal)) answer is (refl, refl));
@@ -76,6 +77,7 @@ returns-in-Some-best g c =
     let answer : Result (Tree (g .S·Cost .Denot)) Refusal = Ok tree in
     record {
       asked = subst (λ (d : Option Refusal). Asked s o entry ladder before after d answer) (sym is) given;
+      number = refl;
       cheapest = λ calls leads made.
         let l = led leads in
         subst (λ (ws : List ℕ). Cheapest s (o .grammar) entry ladder ws z (after .nodes) answer) (l .words) (cheapest-asked (g .S·Scale·met .lawful) o entry ladder before after z (c .span .ensures .law (o .grammar) made) (l .number) None answer is given);
@@ -100,6 +102,7 @@ returns-in-None g c =
     let answer : Result (Tree (g .S·Cost .Denot)) Refusal = Err NoDerivation in
     record {
       asked = subst (λ (d : Option Refusal). Asked s o entry ladder before after d answer) (sym is) lost;
+      number = refl;
       cheapest = λ calls leads made.
         let l = led leads in
         subst (λ (ws : List ℕ). Cheapest s (o .grammar) entry ladder ws z (after .nodes) answer) (l .words) (cheapest-asked (g .S·Scale·met .lawful) o entry ladder before after z (c .span .ensures .law (o .grammar) made) (l .number) None answer is lost);
