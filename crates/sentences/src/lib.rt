@@ -4,6 +4,8 @@ mod preamble;
 mod printing;
 mod serving;
 mod spelling;
+#[cfg(test)]
+mod tests;
 
 use cursor::Cursor;
 use grammar::Draft;
@@ -28,11 +30,32 @@ const CATEGORIES: usize = 32;
 pub fn answers(heap: Global, text: &[u8]) -> Result<Vec<u8>, AllocError> {
     let mut out = Vec::new(heap);
     let mut cursor = Cursor::new(text);
-    let Preamble { draft, scale, ladder } = read_preamble(heap, &mut cursor, Draft::new(heap, NUMBER, CATEGORIES), &mut out)?;
+    let Preamble {
+        draft,
+        scale,
+        ladder,
+    } = read_preamble(
+        heap,
+        &mut cursor,
+        Draft::new(heap, NUMBER, CATEGORIES),
+        &mut out,
+    )?;
     match draft.close() {
         Ok(mut grammar) => match scale {
-            ScaleName::Sum => serve::<Sum>(heap, &mut cursor, &mut grammar, ladder.as_slice(), &mut out)?,
-            ScaleName::Worst => serve::<Worst>(heap, &mut cursor, &mut grammar, ladder.as_slice(), &mut out)?,
+            ScaleName::Sum => serve::<Sum>(
+                heap,
+                &mut cursor,
+                &mut grammar,
+                ladder.as_slice(),
+                &mut out,
+            )?,
+            ScaleName::Worst => serve::<Worst>(
+                heap,
+                &mut cursor,
+                &mut grammar,
+                ladder.as_slice(),
+                &mut out,
+            )?,
         },
         Err(back) => {
             let (fault, _draft) = back;

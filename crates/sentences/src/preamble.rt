@@ -55,7 +55,13 @@ fn take_line(
 }
 
 // Takes the lines up to the first sentence that is free of faults of text and form, and not past it.
-fn take_lines(heap: Global, cursor: &mut Cursor<'_>, draft: &mut Draft, options: &mut Options, out: &mut Vec<u8>) -> Result<(), AllocError> {
+fn take_lines(
+    heap: Global,
+    cursor: &mut Cursor<'_>,
+    draft: &mut Draft,
+    options: &mut Options,
+    out: &mut Vec<u8>,
+) -> Result<(), AllocError> {
     while let Some(line) = cursor.peek() {
         match take_line(heap, line, draft, options) {
             Ok(Next::Sentence) => return Ok(()),
@@ -69,13 +75,25 @@ fn take_lines(heap: Global, cursor: &mut Cursor<'_>, draft: &mut Draft, options:
 }
 
 // Reads all that comes before the first sentence; sums and no ceilings stand where nothing else is said.
-pub fn read_preamble(heap: Global, cursor: &mut Cursor<'_>, mut draft: Draft, out: &mut Vec<u8>) -> Result<Preamble, AllocError> {
-    let mut options = Options { scale: None, ladder: None };
+pub fn read_preamble(
+    heap: Global,
+    cursor: &mut Cursor<'_>,
+    mut draft: Draft,
+    out: &mut Vec<u8>,
+) -> Result<Preamble, AllocError> {
+    let mut options = Options {
+        scale: None,
+        ladder: None,
+    };
     take_lines(heap, cursor, &mut draft, &mut options, out)?;
     let Options { scale, ladder } = options;
     let ladder = match ladder {
         Some(ceilings) => ceilings,
         None => Vec::new(heap),
     };
-    Ok(Preamble { draft, scale: scale.unwrap_or(ScaleName::Sum), ladder })
+    Ok(Preamble {
+        draft,
+        scale: scale.unwrap_or(ScaleName::Sum),
+        ladder,
+    })
 }

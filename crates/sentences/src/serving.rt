@@ -91,12 +91,7 @@ fn put(grammar: &Closed, session: &mut Session, spelling: &[u8]) -> Result<usize
 }
 
 // Holds the words of a sentence and no others, up to the first that is refused.
-fn hold(
-    grammar: &Closed,
-    session: &mut Session,
-    line: &[u8],
-    words: &[Span],
-) -> Result<(), Refusal>
+fn hold(grammar: &Closed, session: &mut Session, line: &[u8], words: &[Span]) -> Result<(), Refusal>
     ensures { λ _. ⌜ now (session .exit) .number ≡ now (session .entry) .number ⌝ }
 {
     let held = session.words().len();
@@ -158,13 +153,22 @@ fn say<S: Written>(
 fn spoken(form: Form) -> Option<Vec<Span>> {
     match form {
         Form::Say(words) => Some(words),
-        Form::Top { .. } | Form::Chain { .. } | Form::Binary { .. } | Form::Lexical { .. } | Form::Scale(_) | Form::Ladder(_) => None,
+        Form::Top { .. }
+        | Form::Chain { .. }
+        | Form::Binary { .. }
+        | Form::Lexical { .. }
+        | Form::Scale(_)
+        | Form::Ladder(_) => None,
     }
 }
 
 // The words of a line after closing, where every head but one is at a wrong place; none where it is blank.
 fn sentence(heap: Global, line: &[u8]) -> Result<Option<Vec<Span>>, Stop<LineFault>> {
-    let allowed = Allowed { grammar: false, scale: false, ladder: false };
+    let allowed = Allowed {
+        grammar: false,
+        scale: false,
+        ladder: false,
+    };
     match read_line(heap, line, allowed)? {
         Some(form) => Ok(spoken(form)),
         None => Ok(None),

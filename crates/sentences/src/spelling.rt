@@ -27,6 +27,10 @@ pub impl Spelling for Spelt<'_> as SpeltSpelling {
 
     fn word(&self, place: usize) -> &[u8] {
         let at = place.saturating_sub(1);
-        if at < self.words.len() { self.grammar.word_name(self.words[at]) } else { self.grammar.word_name(NO_WORD) }
+        if at < self.words.len() {
+            self.grammar.word_name(self.words[at])
+        } else {
+            self.grammar.word_name(NO_WORD)
+        }
     }
 }

@@ -94,7 +94,9 @@ impl Session {
         if let Some(refusal) = self.declines::<S>(grammar, ladder, sizes) {
             return Err(refusal);
         }
-        match best::<S, C, B>(grammar.rules(), self.words(),
+        match best::<S, C, B>(
+            grammar.rules(),
+            self.words(),
             bound,
             ladder,
             chart,

@@ -40,8 +40,8 @@ returns-in-Some g c =
       asked = subst (λ (d : Option Refusal). Asked s o entry ladder before before d answer) (sym is) (refl, refl);
       number = refl;
       cheapest = λ calls leads made.
-        let l = led leads in
-        subst (λ (ws : List ℕ). Cheapest s (o .grammar) entry ladder ws z (before .nodes) answer) (l .words) (cheapest-asked (g .S·Scale·met .lawful) o entry ladder before before z (c .span .ensures .law (o .grammar) made) (l .number) (Some (c .in-Some .refusal)) answer is (refl, refl));
+          let l = led leads in
+          subst (λ (ws : List ℕ). Cheapest s (o .grammar) entry ladder ws z (before .nodes) answer) (l .words) (cheapest-asked (g .S·Scale·met .lawful) o entry ladder before before z (c .span .ensures .law (o .grammar) made) (l .number) (Some (c .in-Some .refusal)) answer is (refl, refl));
     }
 
 pub best-requires : need.best-requires
@@ -79,8 +79,8 @@ returns-in-Some-best g c =
       asked = subst (λ (d : Option Refusal). Asked s o entry ladder before after d answer) (sym is) given;
       number = refl;
       cheapest = λ calls leads made.
-        let l = led leads in
-        subst (λ (ws : List ℕ). Cheapest s (o .grammar) entry ladder ws z (after .nodes) answer) (l .words) (cheapest-asked (g .S·Scale·met .lawful) o entry ladder before after z (c .span .ensures .law (o .grammar) made) (l .number) None answer is given);
+          let l = led leads in
+          subst (λ (ws : List ℕ). Cheapest s (o .grammar) entry ladder ws z (after .nodes) answer) (l .words) (cheapest-asked (g .S·Scale·met .lawful) o entry ladder before after z (c .span .ensures .law (o .grammar) made) (l .number) None answer is given);
     }
 
 pub returns-in-None : need.returns-in-None
@@ -104,6 +104,6 @@ returns-in-None g c =
       asked = subst (λ (d : Option Refusal). Asked s o entry ladder before after d answer) (sym is) lost;
       number = refl;
       cheapest = λ calls leads made.
-        let l = led leads in
-        subst (λ (ws : List ℕ). Cheapest s (o .grammar) entry ladder ws z (after .nodes) answer) (l .words) (cheapest-asked (g .S·Scale·met .lawful) o entry ladder before after z (c .span .ensures .law (o .grammar) made) (l .number) None answer is lost);
+          let l = led leads in
+          subst (λ (ws : List ℕ). Cheapest s (o .grammar) entry ladder ws z (after .nodes) answer) (l .words) (cheapest-asked (g .S·Scale·met .lawful) o entry ladder before after z (c .span .ensures .law (o .grammar) made) (l .number) None answer is lost);
     }

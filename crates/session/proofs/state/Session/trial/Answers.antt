@@ -44,6 +44,6 @@ returns c =
       refused = c .trial-refusal-refused .ensures;
       during = ap (λ (ws : List ℕ). holding (state s) ws) during ∙ sym (tried-held o (state s) p w free);
       undone = ap (λ (r : Option Refusal). back r standing p earlier) none
-        ∙ ap (λ (b : Bool). cond b (holding standing (replaced tried-words p earlier)) standing) there
-        ∙ ap (λ (ws : List ℕ). holding (state s) ws) (written-back n (s .words) (p - 1) w less);
+          ∙ ap (λ (b : Bool). cond b (holding standing (replaced tried-words p earlier)) standing) there
+          ∙ ap (λ (ws : List ℕ). holding (state s) ws) (written-back n (s .words) (p - 1) w less);
     }
