@@ -1,0 +1,4 @@
+pub mod Growing
+mod Closing
+mod Picking
+mod Going

@@ -1,0 +1,6 @@
+mod Placing
+mod Order
+mod Trees
+mod Least
+mod Longer
+mod Around
