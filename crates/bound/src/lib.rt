@@ -1,4 +1,6 @@
 // Bounds: below what the rest of a derivation costs, for each category and numbers of words around it.
+#![tactic(auto)]
+
 ghost use Rattle.std.specs.Prelude.{◌≡◌, ℕ, ◌+◌, ◌≤◌, Bool, true, false, None, Option};
 ghost use Rattle.derivation.specs.Grammar.{Grammar};
 ghost use Rattle.derivation.specs.Bounds.{Bounds};

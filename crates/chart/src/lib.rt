@@ -1,4 +1,6 @@
 // Charts: which constituents have been found in a row of words. The trait, the number of a cell, and the byte chart.
+#![tactic(auto)]
+
 pub mod bytes;
 pub mod cells;
 pub mod meaning;

@@ -1,4 +1,6 @@
 // The rules of a weighted grammar and, in specs/, the theory of its derivations.
+#![tactic(auto)]
+
 ghost use Rattle.derivation.specs.Scale.{Scale};
 ghost use Rattle.derivation.specs.Pruning.{PruningLosesNothing};
 ghost use Rattle.derivation.specs.Ladder.{FirstSuccessIsCheapest};

@@ -1,4 +1,6 @@
 // Grammars by name: drafts to which rules are added, closed grammars on which sessions are opened, and their leases.
+#![tactic(auto)]
+
 ghost use Rattle.grammar.specs.Added.{LinesAddWhatTheySay};
 
 mod adding;

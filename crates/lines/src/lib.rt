@@ -1,4 +1,6 @@
 // Bracketed lines: from the bytes of a line to the form that it says, or its fault.
+#![tactic(auto)]
+
 ghost use Rattle.std.specs.Prelude.{◌≤◌, length, IfOk};
 ghost use Rattle.lines.specs.Said.{Says};
 ghost use Rattle.lines.specs.Causes.{FaultsHaveCauses};

@@ -1,4 +1,6 @@
 // The sentence program: reads a sentence file from standard input and writes a line for each answer.
+#![tactic(auto)]
+
 use sentences::answers;
 use std::io;
 use std::io::{Read, Write};

@@ -1,5 +1,7 @@
 // The refusals of the engine: every cause for which a call says no, with its number.
 // The order of the variants is the order in which causes are looked for: the first that fits decides.
+#![tactic(auto)]
+
 ghost use Rattle.std.specs.Prelude.{◌≡◌};
 ghost use Rattle.refusals.specs.Numbers.{number, layer};
 

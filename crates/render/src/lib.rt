@@ -1,4 +1,6 @@
 // A tree as bracketed text, from its nodes.
+#![tactic(auto)]
+
 ghost use Rattle.std.specs.Prelude.{◌≡◌, ℕ, ◌≤◌, List, ◌++◌, length, IfOk, codes, OnOk};
 ghost use Rattle.render.specs.Render.{Shows};
 ghost use Rattle.render.specs.Read.{ReadsBack};

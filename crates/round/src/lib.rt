@@ -1,4 +1,6 @@
 // One round of the search: every cell of the chart is filled, and what the pruning gate does not let pass stays out.
+#![tactic(auto)]
+
 ghost use Rattle.std.specs.Prelude.{◌≡◌, ◌*◌, ◌≤◌, length, None};
 ghost use Rattle.derivation.specs.Grammar.{grammar};
 ghost use Rattle.derivation.specs.Kept.{KeptNumber};

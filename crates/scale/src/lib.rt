@@ -1,4 +1,6 @@
 // Cost scales: what weights cost, how costs join and how they compare. The search is one text for every scale.
+#![tactic(auto)]
+
 ghost use Rattle.std.specs.Prelude.{◌≡◌, ℕ, Bool, true, false, ◌≢◌};
 ghost use Rattle.derivation.specs.Scale.{Scale as Meaning, Lawful};
 

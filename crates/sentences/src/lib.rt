@@ -1,4 +1,6 @@
 // Sentence files: a grammar in bracketed lines, then sentences, each answered by one line with its cheapest tree or its refusal.
+#![tactic(auto)]
+
 mod cursor;
 mod preamble;
 mod printing;

@@ -1,4 +1,6 @@
 // Sessions over a closed grammar: words put and taken back, trials of a word, and tree requests with the promise of the cheapest tree.
+#![tactic(auto)]
+
 mod calls;
 mod request;
 mod sizes;

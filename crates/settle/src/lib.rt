@@ -1,4 +1,6 @@
 // The least cost of each category of a row under the chain rules, upward or downward.
+#![tactic(auto)]
+
 ghost use Rattle.std.specs.Prelude.{◌≡◌, ◌<◌, ◌≤◌, true, false, length};
 ghost use Rattle.derivation.specs.Named.{NamedChains};
 ghost use Rattle.settle.specs.Offers.{cell, Only, By, Grown};

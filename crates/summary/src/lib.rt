@@ -1,4 +1,6 @@
 // The summary bound of a grammar: exactly the least cost of each surrounding, made in place in memory that is lent.
+#![tactic(auto)]
+
 ghost use Rattle.std.specs.Prelude.{◌≡◌, ◌+◌, ◌*◌, ◌≤◌, length, drop};
 ghost use Rattle.derivation.specs.Grammar.{grammar};
 ghost use Rattle.summary.specs.Memory.{tri, outer, entries_for, Widest, Summed};

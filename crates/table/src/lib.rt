@@ -1,4 +1,6 @@
 // The constituents that are kept and their costs: a chart, and a row of costs beside it.
+#![tactic(auto)]
+
 ghost use Rattle.std.specs.Prelude.{◌≡◌, ℕ, ◌<◌, ◌≤◌, length};
 ghost use Rattle.chart.specs.Meaning.{Inside};
 ghost use Rattle.table.specs.Column.{cheaper};

@@ -1,4 +1,6 @@
 // The tree of a cheapest derivation, read off the table that a finished round leaves.
+#![tactic(auto)]
+
 pub mod node;
 mod ranks;
 mod ways;

@@ -1,4 +1,6 @@
 // The vector chart: each constituent is kept twice, by its start and by its end, so that the lowest split is one "and" of two vectors.
+#![tactic(auto)]
+
 ghost use Rattle.std.specs.Prelude.{◌≡◌, ◌*◌, ◌<◌, ◌≤◌, length};
 ghost use Rattle.chart.specs.Facts.{limited_bounded};
 ghost use Rattle.chart.specs.Limits.{most_words, most_categories, Greatest};
