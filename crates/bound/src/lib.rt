@@ -43,7 +43,7 @@ pub fn passes<S: Scale, B: Bound<S>>(
     right: usize,
     ceiling: Option<S::Cost>,
 ) -> bool
-    ensures { result ≡ admitted scale ceiling (limit bound.now category left right) cost }
+    ensures { result ≡ admitted S.scale ceiling (B.limit bound.now category left right) cost }
 {
     let Some(top) = ceiling else {
         return true;

@@ -6,5 +6,5 @@ use Rattle.lines.proofs.read_line.Goals as goal
 
 pub returns : goal.returns
 returns c =
-    let says : Says shown_if c.tokens-form.result (line_form c.args.allowed c.args.line.now) = search rules in
-    record { says = says; inside = said_inside (length c.args.line.now) shown_if c.tokens-form.result (line_form c.args.allowed c.args.line.now) says (form_inside c.args.allowed c.args.line.now) }
+    let says : Says shown_if c.tokens_form.result (line_form c.args.allowed c.args.line.now) = search rules in
+    record { says = says; inside = said_inside (length c.args.line.now) shown_if c.tokens_form.result (line_form c.args.allowed c.args.line.now) says (form_inside c.args.allowed c.args.line.now) }

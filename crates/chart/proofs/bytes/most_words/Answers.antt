@@ -3,8 +3,8 @@ use Rattle.std.proofs.lemmas.Bool.{cases_lt}
 use Rattle.chart.proofs.Triangles.{tri_mono, tri_closed}
 use Rattle.chart.proofs.bytes.most_words.Goals as goal
 
-pub returns-then-bytes-bytes-for : goal.returns-then-bytes-bytes-for
-returns-then-bytes-bytes-for c =
+pub returns-then-bytes-bytes_for : goal.returns-then-bytes-bytes_for
+returns-then-bytes-bytes_for c =
     let m = c.loop-n.n in
     record {
       few = omega arith;

@@ -5,8 +5,8 @@ use Rattle.lines.proofs.reader.tokens.Goals as goal
 
 pub loop-b-preserved : goal.loop-b-preserved
 loop-b-preserved c =
-    let step = c.in-ok-take.ensures in
-    (more (sofar c.loop-b.reader) (sofar c.take.new.self) _ c.loop-b.b-index c.args.line.now c.loop-b-test.true c.class-of.ensures step c.loop-b.invariant.0, omega (arith, moves_on (sofar c.loop-b.reader) (sofar c.take.new.self) c.class-of.result step))
+    let step = c.in_ok-take.ensures in
+    (more (sofar c.loop-b.reader) (sofar c.take.new.self) _ c.loop-b.b-index c.args.line.now c.loop-b-test.true c.class_of.ensures step c.loop-b.invariant.0, omega (arith, moves_on (sofar c.loop-b.reader) (sofar c.take.new.self) c.class_of.result step))
 
 pub returns : goal.returns
 returns c =

@@ -5,7 +5,7 @@ use Rattle.chart.proofs.bytes.ByteChart.new.Goals as goal
 
 pub returns : goal.returns
 returns c = record {
-  room = c.most-words-capacity.ensures;
+  room = c.most_words-capacity.ensures;
   words = refl;
   categories = refl;
   empty = limited_empty 0 0 (marked c.args.bytes.now) (λ b e a i. absurd (omega (arith, i.kind)));

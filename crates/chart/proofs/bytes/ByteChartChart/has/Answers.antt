@@ -5,23 +5,23 @@ use Rattle.chart.proofs.Within.{limited_inside, limited_outside}
 use Rattle.chart.proofs.Marks.{place_below}
 use Rattle.chart.proofs.bytes.ByteChartChart.has.Goals as goal
 
-pub place-of-requires : goal.place-of-requires
-place-of-requires c =
+pub place_of-requires : goal.place_of-requires
+place_of-requires c =
     let s = c.args.self.now in
     let i = c.takes.ensures.fact c.if-takes.true in
     record { first = i.first; order = i.order; last = omega (arith, i.last, s.within, s.most); kind = omega (arith, i.kind, s.kinds) }
 
-pub bounds-self-place-of : goal.bounds-self-place-of
-bounds-self-place-of c =
+pub bounds-self-place_of : goal.bounds-self-place_of
+bounds-self-place_of c =
     let s = c.args.self.now in
     let i = c.takes.ensures.fact c.if-takes.true in
-    omega (arith, place_below s.words s.categories s.capacity c.args.b c.args.e c.args.a s.kinds s.within i, s.fits, c.place-of.ensures)
+    omega (arith, place_below s.words s.categories s.capacity c.args.b c.args.e c.args.a s.kinds s.within i, s.fits, c.place_of.ensures)
 
 pub returns-then-takes : goal.returns-then-takes
 returns-then-takes c =
     let s = c.args.self.now in
     let i = c.takes.ensures.fact c.if-takes.true in
-    ap (λ k. eqb (get_or s.bytes.now k 0) 1) c.place-of.ensures
+    ap (λ k. eqb (get_or s.bytes.now k 0) 1) c.place_of.ensures
     ∙ sym (limited_inside s.words s.categories (marked s.bytes.now) c.args.b c.args.e c.args.a i)
 
 pub returns-else-takes : goal.returns-else-takes

@@ -4,11 +4,11 @@ use Rattle.chart.specs.Bytes.{place, held}
 use Rattle.chart.proofs.Marks.{place_below, set_adds}
 use Rattle.chart.proofs.bytes.ByteChartChart.put.Goals as goal
 
-pub bounds-self-place-of : goal.bounds-self-place-of
-bounds-self-place-of c =
+pub bounds-self-place_of : goal.bounds-self-place_of
+bounds-self-place_of c =
     let s = c.args.self.now in
     let i = c.takes.ensures.fact c.if-takes.true in
-    omega (arith, place_below s.words s.categories s.capacity c.args.b c.args.e c.args.a s.kinds s.within i, s.fits, c.place-of.ensures)
+    omega (arith, place_below s.words s.categories s.capacity c.args.b c.args.e c.args.a s.kinds s.within i, s.fits, c.place_of.ensures)
 
 pub returns-then-takes : goal.returns-then-takes
 returns-then-takes c =
@@ -24,5 +24,5 @@ returns-then-takes c =
       room = refl;
       words = refl;
       categories = refl;
-      adds = subst P (sym c.place-of.ensures) (set_adds s.bytes.now s.words s.categories b e a s.kinds fits i);
+      adds = subst P (sym c.place_of.ensures) (set_adds s.bytes.now s.words s.categories b e a s.kinds fits i);
     }

@@ -20,11 +20,11 @@ loop-i-preserved c =
           (rw get_or-set_same),
     )
 
-pub invariant-of-self-then-admits : goal.invariant-of-self-then-admits
-invariant-of-self-then-admits c =
+pub invariant_of-self-then-admits : goal.invariant_of-self-then-admits
+invariant_of-self-then-admits c =
     let s = c.loop-i.self in
     let ok = c.admits.ensures.fact c.if-admits.true in
-    (s.most, (s.fits, (omega (arith, ok.0, c.loop-i.invariant.0), (ok.1, tt))))
+    record { most = s.most; fits = s.fits; within = omega (arith, ok.0, c.loop-i.invariant.0); kinds = ok.1 }
 
 pub returns-after-loop-i : goal.returns-after-loop-i
 returns-after-loop-i c =
