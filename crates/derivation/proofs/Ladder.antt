@@ -1,5 +1,5 @@
 -- The first round that succeeds has the least cost of all, and its number is that of the ceilings below the cost.
-use Rattle.std.proofs.Common.{◌≡◌, ℕ, zero, suc, ◌+◌, ◌<◌, ◌≤◌, Bool, true, false, cond, ◌⊎◌, List, [], ◌∷◌, length, Some, None, Option, sym, refl, ap, ◌∙◌, subst, inl, inr, ⊎_elim, add-one, arith}
+use Rattle.std.proofs.Common.{◌≡◌, ℕ, zero, suc, ◌+◌, ◌<◌, ◌≤◌, Bool, true, cond, List, [], ◌∷◌, length, Some, None, Option, sym, refl, ap, subst, inl, inr, arith}
 use Rattle.std.proofs.lemmas.Bool.{cases_Bool}
 use Rattle.derivation.specs.Scale.{Scale, Lawful, Within}
 use Rattle.derivation.specs.Grammar.{Grammar}
@@ -7,8 +7,8 @@ use Rattle.derivation.specs.Derivation.{Derivation, cost}
 use Rattle.derivation.specs.Bounds.{Entries, Bounds}
 use Rattle.derivation.specs.Passing.{Passes}
 use Rattle.derivation.specs.Kept.{Kept}
-use Rattle.derivation.specs.Ladder.{ceiling_at, Rising, passed, Fails, Succeeds, Settles, FirstSuccessIsCheapest}
-use Rattle.derivation.proofs.Laws.{not_both, above_within}
+use Rattle.derivation.specs.Ladder.{ceiling_at, Rising, passed, Succeeds, Settles, FirstSuccessIsCheapest}
+use Rattle.derivation.proofs.Laws.{above_within}
 use Rattle.derivation.proofs.Pruning.{prunes}
 use Rattle.derivation.proofs.Table.{all_pass}
 

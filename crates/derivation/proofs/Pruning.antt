@@ -1,5 +1,5 @@
 -- A round with a ceiling keeps each derivation of the top that is not above it, and no other.
-use Rattle.std.proofs.Common.{◌≡◌, ℕ, ◌+◌, ◌-◌, ◌<◌, ◌≤◌, ◌⊎◌, List, length, Some, None, Option, sym, refl, ap, ◌∙◌, subst, subst₂, inl, inr, ⊎_elim, arith}
+use Rattle.std.proofs.Common.{◌≡◌, ℕ, ◌+◌, ◌-◌, ◌≤◌, List, length, Some, None, Option, sym, ap, ◌∙◌, subst, subst₂, ⊎_elim, arith}
 use Rattle.derivation.specs.Scale.{Scale, Lawful, Within}
 use Rattle.derivation.specs.Grammar.{Grammar}
 use Rattle.derivation.specs.Derivation.{Derivation, cost, word, chain, binary}

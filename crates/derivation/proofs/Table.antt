@@ -1,5 +1,5 @@
 -- A table that is closed under the rules holds the least cost of what passes.
-use Rattle.std.proofs.Common.{◌≡◌, ℕ, ◌+◌, ◌-◌, ◌<◌, ◌≤◌, List, length, Some, None, Option, sym, refl, ap, ◌∙◌, subst, arith}
+use Rattle.std.proofs.Common.{◌≡◌, ℕ, ◌+◌, List, length, Some, None, Option, refl, arith}
 use Rattle.derivation.specs.Scale.{Scale, Lawful, Within}
 use Rattle.derivation.specs.Grammar.{Grammar}
 use Rattle.derivation.specs.Derivation.{Derivation, cost, word, chain, binary}

@@ -6,7 +6,7 @@ use Rattle.vectors.proofs.VectorChart.new.Goals as goal
 
 pub returns : goal.returns
 returns c = record {
-  room = c.most-words-capacity.ensures;
+  room = c.most_words-capacity.ensures;
   words = refl;
   categories = refl;
   empty = limited_empty 0 0 (by_start c.args.vectors.now) (λ b e a i. absurd (omega (arith, i.kind)));

@@ -11,7 +11,7 @@ pub returns-then-takes : goal.returns-then-takes
 returns-then-takes c =
     let s = c.args.self.now in
     let i = c.takes.ensures.fact c.if-takes.true in
-    bit-read c.args.e (get_or s.vectors.now c.vector-of.result 0) ∙ ap (λ k. bit c.args.e (get_or s.vectors.now k 0)) c.vector-of.ensures
+    bit-read c.args.e (get_or s.vectors.now c.vector_of.result 0) ∙ ap (λ k. bit c.args.e (get_or s.vectors.now k 0)) c.vector_of.ensures
     ∙ sym (limited_inside s.words s.categories (by_start s.vectors.now) c.args.b c.args.e c.args.a i)
 
 pub returns-else-takes : goal.returns-else-takes

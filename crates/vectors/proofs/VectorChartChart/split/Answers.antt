@@ -9,10 +9,10 @@ pub returns-then-m-lt-BITS : goal.returns-then-m-lt-BITS
 returns-then-m-lt-BITS c =
     let s = c.args.self.now in
     let i = c.takes.ensures.fact c.if-takes.true in (
-      shared_lowest s.vectors.now s.words s.categories c.args.p c.args.q c.args.b c.args.e c.vector-of.result c.vector-of-then-q-self.result
-          s.starts s.ends i c.if-q-self.true c.vector-of.ensures c.vector-of-then-q-self.ensures 64 c.if-m-lt-BITS.true,
-      shared_before s.vectors.now s.words s.categories c.args.p c.args.q c.args.b c.args.e c.vector-of.result c.vector-of-then-q-self.result
-          s.starts s.ends i c.if-q-self.true c.vector-of.ensures c.vector-of-then-q-self.ensures 64,
+      shared_lowest s.vectors.now s.words s.categories c.args.p c.args.q c.args.b c.args.e c.vector_of.result c.vector_of-then-q-self.result
+          s.starts s.ends i c.if-q-self.true c.vector_of.ensures c.vector_of-then-q-self.ensures 64 c.if-m-lt-BITS.true,
+      shared_before s.vectors.now s.words s.categories c.args.p c.args.q c.args.b c.args.e c.vector_of.result c.vector_of-then-q-self.result
+          s.starts s.ends i c.if-q-self.true c.vector_of.ensures c.vector_of-then-q-self.ensures 64,
     )
 
 pub returns-else-m-lt-BITS : goal.returns-else-m-lt-BITS
@@ -20,8 +20,8 @@ returns-else-m-lt-BITS c m split =
     let s = c.args.self.now in
     let i = c.takes.ensures.fact c.if-takes.true in
     let high : m < c.args.e = split.1 in
-    shared_before s.vectors.now s.words s.categories c.args.p c.args.q c.args.b c.args.e c.vector-of.result c.vector-of-then-q-self.result
-    s.starts s.ends i c.if-q-self.true c.vector-of.ensures c.vector-of-then-q-self.ensures 64 m
+    shared_before s.vectors.now s.words s.categories c.args.p c.args.q c.args.b c.args.e c.vector_of.result c.vector_of-then-q-self.result
+    s.starts s.ends i c.if-q-self.true c.vector_of.ensures c.vector_of-then-q-self.ensures 64 m
     (omega (arith, i.last, s.within, s.most, c.if-m-lt-BITS.false)) split
 
 pub returns-else-takes : goal.returns-else-takes

@@ -5,22 +5,18 @@ use Rattle.vectors.specs.Vectors.{vectors_for}
 use Rattle.vectors.proofs.Marks.{no_starts, no_ends, cleared_empty, cleared_starts, cleared_ends}
 use Rattle.vectors.proofs.VectorChartChart.start.Goals as goal
 
-pub invariant-of-self-in-loop-i : goal.invariant-of-self-in-loop-i
-invariant-of-self-in-loop-i c =
+pub invariant_of-self-in-loop-i : goal.invariant_of-self-in-loop-i
+invariant_of-self-in-loop-i c =
     let s = c.loop-i.self in
-    let now = set s.vectors.now c.loop-i.i 0 in (
-      s.most,
-      (
-        simp length-set s.fits,
-        (
-          s.within,
-          (
-            s.kinds,
-            (no_starts now s.words s.categories c.loop-i.invariant.1, (no_ends now s.words s.categories c.loop-i.invariant.1, tt)),
-          ),
-        ),
-      ),
-    )
+    let now = set s.vectors.now c.loop-i.i 0 in
+    record {
+      most = s.most;
+      fits = simp length-set s.fits;
+      within = s.within;
+      kinds = s.kinds;
+      starts = no_starts now s.words s.categories c.loop-i.invariant.1;
+      ends = no_ends now s.words s.categories c.loop-i.invariant.1;
+    }
 
 pub loop-i-preserved : goal.loop-i-preserved
 loop-i-preserved c =
@@ -34,23 +30,19 @@ loop-i-preserved c =
           (rw get_or-set_same),
     )
 
-pub invariant-of-self-then-admits : goal.invariant-of-self-then-admits
-invariant-of-self-then-admits c =
+pub invariant_of-self-then-admits : goal.invariant_of-self-then-admits
+invariant_of-self-then-admits c =
     let s = c.loop-i.self in
     let ok = c.admits.ensures.fact c.if-admits.true in
-    let none : (k : ℕ) → k < vectors_for c.args.n → get_or s.vectors.now k 0 ≡ 0 = λ k h. c.loop-i.invariant.2 k (omega arith) in (
-      s.most,
-      (
-        s.fits,
-        (
-          omega (arith, ok.0, c.loop-i.invariant.0),
-          (
-            ok.1,
-            (cleared_starts s.vectors.now c.args.n c.args.g ok.1 none, (cleared_ends s.vectors.now c.args.n c.args.g ok.1 none, tt)),
-          ),
-        ),
-      ),
-    )
+    let none : (k : ℕ) → k < vectors_for c.args.n → get_or s.vectors.now k 0 ≡ 0 = λ k h. c.loop-i.invariant.2 k (omega arith) in
+    record {
+      most = s.most;
+      fits = s.fits;
+      within = omega (arith, ok.0, c.loop-i.invariant.0);
+      kinds = ok.1;
+      starts = cleared_starts s.vectors.now c.args.n c.args.g ok.1 none;
+      ends = cleared_ends s.vectors.now c.args.n c.args.g ok.1 none;
+    }
 
 pub returns-after-loop-i : goal.returns-after-loop-i
 returns-after-loop-i c =
