@@ -1,7 +1,7 @@
 -- The bracket that does not pair, found among the tokens, is the first that does not pair among the bytes.
-use Rattle.std.proofs.Common.{◌≡◌, ℕ, zero, suc, ◌+◌, ◌-◌, ◌<◌, ◌≤◌, Bool, true, false, cond, ◌&&◌, eqb, leb, ◌⊎◌, List, [], ◌∷◌, length, take, Some, None, Ok, Err, Option, Result, sym, refl, ap, ◌∙◌, subst, inl, inr, ⊎_elim, zero-add, add-one, arith}
+use Rattle.std.proofs.Common.{◌≡◌, ℕ, zero, suc, ◌+◌, ◌-◌, ◌<◌, true, false, cond, ◌&&◌, eqb, leb, ◌⊎◌, List, [], ◌∷◌, length, take, Some, None, Ok, Err, Option, sym, refl, ap, subst, inl, inr, ⊎_elim, zero-add, add-one, arith}
 use Rattle.std.proofs.lemmas.List.Sums.{sum_by-cons}
-use Rattle.std.proofs.lemmas.Bool.{cond_both, eqb-true, eqb-false, eq-eqb, ne_eqb}
+use Rattle.std.proofs.lemmas.Bool.{cond_both, eqb-true, eqb-false, ne_eqb}
 use Rattle.lines.specs.declared.bytes.Class.{Class}
 use Rattle.lines.specs.declared.bytes.Class.TheVariants.{Open, Close, Blank, LineEnd, Letter, Foreign}
 use Rattle.lines.specs.declared.reader.Token.{Token}
@@ -9,7 +9,7 @@ use Rattle.lines.specs.declared.reader.Token.TheVariants.{Opening, Closing, Part
 use Rattle.lines.specs.Run.{run, on_ok}
 use Rattle.lines.specs.Tokens.{part_at, joined, before, tokens_from}
 use Rattle.lines.specs.Shape.{deeper, still_open, unpaired_at}
-use Rattle.lines.specs.Causes.{First, Nowhere, opened, closed, UnpairedAt}
+use Rattle.lines.specs.Causes.{opened, closed, UnpairedAt}
 use Rattle.lines.proofs.Firsts.{Finds, FindsFrom, finds_as, from_zero, found, later}
 
 -- `UnpairedAt` in bytes before which d brackets are open

@@ -1,5 +1,5 @@
 -- The parts up to a closing bracket, one token at a time.
-use Rattle.std.proofs.Common.{◌≡◌, ◌<◌, List, [], ◌∷◌, ◌++◌, length, Some, None, Ok, Err, arith}
+use Rattle.std.proofs.Common.{◌≡◌, ◌<◌, List, [], ◌∷◌, ◌++◌, length, Some, None, Ok, arith}
 use Rattle.lines.specs.declared.reader.Span.{Span}
 use Rattle.lines.specs.declared.reader.Token.{Token}
 use Rattle.lines.specs.declared.reader.Token.TheVariants.{Opening, Closing, Part}

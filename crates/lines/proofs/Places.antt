@@ -1,5 +1,5 @@
 -- Every span of a form lies in the line that it was read from.
-use Rattle.std.proofs.Common.{◌≡◌, ℕ, ◌+◌, ◌<◌, ◌≤◌, Bool, true, false, cond, eqb, List, [], ◌∷◌, ◌++◌, length, IfOk, Some, None, Ok, Err, Option, Result, sym, refl, ap, ◌∙◌, subst, zero-add, arith}
+use Rattle.std.proofs.Common.{◌≡◌, ℕ, ◌+◌, ◌<◌, ◌≤◌, true, false, cond, eqb, List, [], ◌∷◌, ◌++◌, length, IfOk, Some, None, Ok, Err, Option, Result, sym, refl, subst, zero-add, arith}
 use Rattle.std.specs.List.{AllByRecursion as All}
 use Rattle.std.proofs.ByRecursion.{All-append}
 use Rattle.std.proofs.lemmas.Bool.{eqb-true}
@@ -20,8 +20,8 @@ use Rattle.lines.specs.Bytes.{class_of, foreign_at, too_long_at}
 use Rattle.lines.specs.Run.{on_ok}
 use Rattle.lines.specs.Said.{Says}
 use Rattle.lines.specs.Tokens.{bytes_at, part_at, joined, before, tokens_from}
-use Rattle.lines.specs.Shape.{Reading, top, chain, binary, lexical, scale, ladder, say, first, rest, as_opening, as_closing, as_end, as_part, as_more, Parsed, taken, head_of, as_head, head_part, top_of, body_of, rule_of, lex_of, scale_named, scale_of, parts_on, ladder_of, say_of, by_head, shape_of, unpaired_at}
-use Rattle.lines.specs.Form.{fault_at, unless, fitted, number_at, numbers_at, valued, tokens_form, line_form, Lies, Inside, InsideIf}
+use Rattle.lines.specs.Shape.{Reading, top, chain, binary, lexical, scale, ladder, say, first, rest, as_opening, as_closing, as_end, as_part, as_more, Parsed, taken, head_of, as_head, head_part, top_of, body_of, rule_of, lex_of, scale_named, scale_of, parts_on, by_head, shape_of, unpaired_at}
+use Rattle.lines.specs.Form.{unless, fitted, number_at, numbers_at, valued, tokens_form, line_form, Lies, Inside, InsideIf}
 
 abbrev Stands : ℕ → Token → Type 0
 Stands n (Opening at) = Unit {0}

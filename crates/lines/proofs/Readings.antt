@@ -1,17 +1,16 @@
 -- A reader that moves by state and class reads the tokens of its line.
-use Rattle.std.proofs.Common.{◌≡◌, ℕ, ◌+◌, ◌<◌, ◌≤◌, Bool, true, false, cond, eqb, List, [], ◌∷◌, ◌++◌, length, get_or, drop, sym, refl, ap, ◌∙◌, subst, append_assoc, arith}
+use Rattle.std.proofs.Common.{◌≡◌, ℕ, ◌+◌, ◌<◌, ◌≤◌, true, false, cond, eqb, List, [], ◌∷◌, ◌++◌, length, get_or, drop, sym, refl, ap, ◌∙◌, append_assoc, arith}
 use Rattle.std.proofs.lemmas.List.{at_drop_more, at_drop_all}
 use Rattle.std.proofs.lemmas.Bool.{eq-eqb, ne_eqb, cond-true, cond-false}
 use Rattle.lines.specs.declared.bytes.Class.{Class}
 use Rattle.lines.specs.declared.bytes.Class.TheVariants.{Open, Close, Blank, LineEnd, Letter, Foreign}
-use Rattle.lines.specs.declared.reader.Span.{Span}
 use Rattle.lines.specs.declared.reader.Token.{Token}
 use Rattle.lines.specs.declared.reader.Token.TheVariants.{Opening, Closing, Part}
 use Rattle.lines.specs.declared.reader.State.{State}
 use Rattle.lines.specs.declared.reader.State.TheVariants.{Between, Within}
 use Rattle.lines.specs.Bytes.{class_of}
 use Rattle.lines.specs.Tokens.{part_at, joined, before, tokens_from}
-use Rattle.lines.specs.Moves.{Sofar, ended, within, after, given, moved}
+use Rattle.lines.specs.Moves.{Sofar, ended, after, given, moved}
 
 -- a part under way, before the tokens that follow
 abbrev under : State → ℕ → List Token → List Token

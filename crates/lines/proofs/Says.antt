@@ -1,5 +1,5 @@
 -- A fault passes on by a `?`.
-use Rattle.std.proofs.Common.{◌≡◌, Ok, Err, Result}
+use Rattle.std.proofs.Common.{◌≡◌, Err, Result}
 use Rattle.lines.specs.declared.fault.Stop.{Stop}
 use Rattle.lines.specs.declared.fault.Stop.TheVariants.{Memory, Refusal}
 use Rattle.lines.specs.Said.{Stops}

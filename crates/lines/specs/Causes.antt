@@ -1,5 +1,5 @@
 -- The causes of a line's faults, in plain words, and that each fault is answered exactly where its cause stands.
-use Rattle.std.specs.Prelude.{◌≡◌, ℕ, ◌+◌, ◌<◌, ◌≤◌, Bool, true, false, ◌⊎◌, List, length, take, Err, count_by, nat_eq, slice_index}
+use Rattle.std.specs.Prelude.{◌≡◌, ℕ, ◌+◌, ◌<◌, true, false, ◌⊎◌, List, length, take, Err, count_by, nat_eq, slice_index}
 use Rattle.refusals.specs.declared.Refusal.TheVariants.{ForeignByte, TooLong, Unpaired}
 use Rattle.lines.specs.declared.shape.Allowed.{Allowed}
 use Rattle.lines.specs.Bytes.{own, letter}

@@ -3,7 +3,7 @@ use Rattle.std.specs.Prelude.{ℕ, ◌+◌, List, [], ◌∷◌, ◌++◌, vec_i
 use Rattle.lines.specs.declared.bytes.Class.{Class}
 use Rattle.lines.specs.declared.bytes.Class.TheVariants.{Open, Close, Blank, LineEnd, Letter, Foreign}
 use Rattle.lines.specs.declared.reader.Token.{Token}
-use Rattle.lines.specs.declared.reader.Token.TheVariants.{Opening, Closing, Part}
+use Rattle.lines.specs.declared.reader.Token.TheVariants.{Opening, Closing}
 use Rattle.lines.specs.declared.reader.State.{State}
 use Rattle.lines.specs.declared.reader.State.TheVariants.{Between, Within}
 use Rattle.lines.specs.declared.reader.Reader.{Reader}

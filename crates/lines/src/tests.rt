@@ -1,7 +1,6 @@
 // Each form, and lines at both sides of each limit, as tables: lines of text, and what is told of them.
 use crate::{Allowed, Form, Span, Stop, line_length, read_line};
 use std::alloc::{AllocError, Global};
-use std::fmt;
 use std::fmt::Write;
 use std::test::Fail;
 
@@ -11,11 +10,11 @@ const NONE: Allowed = Allowed {
     ladder: false,
 };
 
-fn tell_spans(out: &mut String, weight: u16, spans: &[Span]) -> fmt::Result {
+fn tell_spans(out: &mut String, weight: u16, spans: &[Span]) -> Result<(), AllocError> {
     writeln!(out, "{weight} {spans:?}")
 }
 
-fn tell_form(out: &mut String, form: Form) -> fmt::Result {
+fn tell_form(out: &mut String, form: Form) -> Result<(), AllocError> {
     match form {
         Form::Top { category } => tell_spans(out, 0, &[category]),
         Form::Chain {

@@ -1,4 +1,4 @@
-use Rattle.std.proofs.Common.{◌≡◌, sym, ◌∙◌, rules}
+use Rattle.std.proofs.Common.{sym, ◌∙◌}
 use Rattle.lines.proofs.Onward.{begins, onward_more, onward_stop, onward_end}
 use Rattle.lines.proofs.number.number_of.Goals as goal
 
