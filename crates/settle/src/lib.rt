@@ -24,7 +24,7 @@ pub fn read<S: Scale>(row: &[Option<S::Cost>], at: usize) -> Option<S::Cost>
 // Offers a cost to a place: the cheaper of the two stays.
 pub fn offer<S: Scale>(row: &mut [Option<S::Cost>], at: usize, cost: S::Cost)
     requires { at < length row.old }
-    ensures { Grown scale (Only at cost) (cell row.old) (cell row.new) }
+    ensures { Grown S.scale (Only at cost) (cell row.old) (cell row.new) }
 {
     let old = row[at];
     match old {
@@ -61,7 +61,7 @@ fn target_of(direction: Direction, rule: ChainRule) -> usize
 
 // Whether a rule of this weight makes the second cost, or none, cheaper by way of the first.
 fn lowers<S: Scale>(weight: u16, from: Option<S::Cost>, to: Option<S::Cost>) -> bool
-    ensures { result ≡ lowered scale weight from to }
+    ensures { result ≡ lowered S.scale weight from to }
 {
     match from {
         None => false,
@@ -75,8 +75,8 @@ fn lowers<S: Scale>(weight: u16, from: Option<S::Cost>, to: Option<S::Cost>) -> 
 // Whether no rule makes a cost of the row cheaper.
 fn closed<S: Scale>(chains: &[ChainRule], direction: Direction, row: &[Option<S::Cost>]) -> bool
     requires { NamedChains chains.now (length row.now) }
-    ensures yes { result ≡ true → Closed scale direction chains.now (cell row.now) }
-    ensures no { result ≡ false → Closed scale direction chains.now (cell row.now) → ⊥ }
+    ensures yes { result ≡ true → Closed S.scale direction chains.now (cell row.now) }
+    ensures no { result ≡ false → Closed S.scale direction chains.now (cell row.now) → ⊥ }
 {
     for rule in chains {
         let from = read::<S>(row, source_of(direction, *rule));
@@ -99,7 +99,7 @@ fn relax<S: Scale>(
 )
     requires long { length row.old ≤ length settled.now }
     requires named { NamedChains chains.now (length row.old) }
-    ensures { Grown scale (By chains.now (length chains.now) (Steps scale direction settled.now from cost)) (cell row.old) (cell row.new) }
+    ensures { Grown S.scale (By chains.now (length chains.now) (Steps S.scale direction settled.now from cost)) (cell row.old) (cell row.new) }
 {
     for rule in chains {
         let to = target_of(direction, *rule);
@@ -115,7 +115,7 @@ fn better<S: Scale>(
     at: usize,
     cost: S::Cost,
 ) -> Option<(usize, S::Cost)>
-    ensures { result ≡ chosen scale best at cost }
+    ensures { result ≡ chosen S.scale best at cost }
 {
     match best {
         None => Some((at, cost)),
@@ -132,7 +132,7 @@ fn better<S: Scale>(
 // The cheapest category that is not settled.
 fn pick<S: Scale>(row: &[Option<S::Cost>], settled: &[bool]) -> Option<(usize, S::Cost)>
     requires { length row.now ≤ length settled.now }
-    ensures { Picked scale row.now settled.now (length row.now) result }
+    ensures { Picked S.scale row.now settled.now (length row.now) result }
 {
     let mut best: Option<(usize, S::Cost)> = None;
     for i in 0..row.len() {
@@ -150,7 +150,7 @@ fn pick<S: Scale>(row: &[Option<S::Cost>], settled: &[bool]) -> Option<(usize, S
 pub fn settle<S: Scale>(chains: &[ChainRule], direction: Direction, row: &mut [Option<S::Cost>])
     requires few { length row.old ≤ 64 }
     requires named { NamedChains chains.now (length row.old) }
-    ensures { Settled scale direction chains.now (cell row.old) (cell row.new) }
+    ensures { Settled S.scale direction chains.now (cell row.old) (cell row.new) }
 {
     if closed::<S>(chains, direction, row) {
         return;

@@ -1,5 +1,5 @@
 -- The row of a pair is exact, from the rows of the lengths and of the pairs before it.
-use Rattle.std.proofs.Common.{◌≡◌, ℕ, ◌+◌, ◌-◌, ◌*◌, ◌<◌, ◌≤◌, cond, ltb, ◌⊎◌, List, Some, None, Option, sym, refl, ap, ◌∙◌, subst, ap₂, subst₂, inl, inr, ⊎_elim, arith, lt-ltb}
+use Rattle.std.proofs.Common.{◌≡◌, ℕ, ◌+◌, ◌-◌, ◌*◌, ◌<◌, ◌≤◌, cond, ltb, List, Some, None, Option, sym, refl, ap, ◌∙◌, subst, ap₂, subst₂, inl, inr, ⊎_elim, arith, lt-ltb}
 use native.Mathlib.Decide.{ℕ_discrete}
 use Rattle.derivation.specs.Named.{NamedBinaries}
 use Rattle.derivation.specs.Grammar.{Grammar}

@@ -17,7 +17,7 @@ use settle::{Direction, offer};
 fn seed<S: Scale>(words: &[WordRule], memory: &mut [Option<S::Cost>], size: usize, base: usize)
     requires room { base + size ≤ length memory.old }
     requires named { (k : ℕ) (r : Lexical) → At words.now k r → r.category < size }
-    ensures { Into scale size base (By words.now (length words.now) (Words scale)) memory.old memory.new }
+    ensures { Into S.scale size base (By words.now (length words.now) (Words S.scale)) memory.old memory.new }
 {
     for rule in words {
         offer::<S>(
@@ -38,7 +38,7 @@ fn begin_length<S: Scale>(
 )
     requires room { base + size ≤ length memory.old }
     requires named { (k : ℕ) (r : Lexical) → At words.now k r → r.category < size }
-    ensures { Fresh scale size base (λ A x. (n ≡ 1) × By words.now (length words.now) (Words scale) A x) memory.old memory.new }
+    ensures { Fresh S.scale size base (λ A x. (n ≡ 1) × By words.now (length words.now) (Words S.scale) A x) memory.old memory.new }
 {
     empty::<S>(memory, size, base);
     if n == 1 {
@@ -56,7 +56,7 @@ fn pair_lengths<S: Scale>(
     requires some { 1 ≤ n }
     requires room { (n - 1) * size + size ≤ length memory.old }
     requires named { NamedBinaries binaries.now size }
-    ensures { Into scale size ((n - 1) * size) (Pile n (λ m. Joins scale Whole binaries.now ((m - 1) * size) ((n - m - 1) * size) memory.old)) memory.old memory.new }
+    ensures { Into S.scale size ((n - 1) * size) (Pile n (λ m. Joins S.scale Whole binaries.now ((m - 1) * size) ((n - m - 1) * size) memory.old)) memory.old memory.new }
 {
     let base = (n - 1) * size;
     for m in 1..n {
@@ -76,8 +76,8 @@ fn pair_lengths<S: Scale>(
 fn length_row<S: Scale>(rules: &Rules, memory: &mut [Option<S::Cost>], n: usize)
     requires some { 1 ≤ n }
     requires room { (n - 1) * rules.now.categories + rules.now.categories ≤ length memory.old }
-    requires before { Insides scale (grammar rules.now) rules.now.categories (n - 1) memory.old }
-    ensures exact { Insides scale (grammar rules.now) rules.now.categories n memory.new }
+    requires before { Insides S.scale (grammar rules.now) rules.now.categories (n - 1) memory.old }
+    ensures exact { Insides S.scale (grammar rules.now) rules.now.categories n memory.new }
     ensures beside { Beside rules.now.categories ((n - 1) * rules.now.categories) memory.old memory.new }
 {
     let size = rules.categories;
@@ -91,7 +91,7 @@ fn length_row<S: Scale>(rules: &Rules, memory: &mut [Option<S::Cost>], n: usize)
 pub fn fill_lengths<S: Scale>(rules: &Rules, memory: &mut [Option<S::Cost>], span: usize)
     requires few { span ≤ 40 }
     requires room { span * rules.now.categories ≤ length memory.old }
-    ensures exact { Insides scale (grammar rules.now) rules.now.categories span memory.new }
+    ensures exact { Insides S.scale (grammar rules.now) rules.now.categories span memory.new }
     ensures past { (k : ℕ) → span * rules.now.categories ≤ k → cell memory.new k ≡ cell memory.old k }
 {
     for n in 1..span + 1 {

@@ -57,7 +57,7 @@ pub fn summarize<'a, S: Scale>(
 ) -> Summary<'a, S::Cost>
     ensures categories { result.categories ≡ rules.now.categories }
     ensures span { Widest result.categories (length memory.old) result.span }
-    ensures exact { Summed scale (grammar rules.now) result.categories result.span result.memory.now }
+    ensures exact { Summed S.scale (grammar rules.now) result.categories result.span result.memory.now }
     ensures remains { drop (entries_for result.categories result.span) result.memory.now ≡ drop (entries_for result.categories result.span) memory.old }
     ensures long { length result.memory.now ≡ length memory.old }
     ensures lent { result.memory.ghost_name ≡ memory.entry.ghost_name }

@@ -56,7 +56,7 @@ fn begin_pair<S: Scale>(
 )
     requires room { base + size ≤ length memory.old }
     requires named { top < size }
-    ensures { Fresh scale size base (λ A x. (n ≡ 0) × Only top scale.neutral A x) memory.old memory.new }
+    ensures { Fresh S.scale size base (λ A x. (n ≡ 0) × Only top S.scale.neutral A x) memory.old memory.new }
 {
     empty::<S>(memory, size, base);
     if n == 0 {
@@ -78,7 +78,7 @@ fn gaps<S: Scale>(
     requires short { left + right < span }
     requires room { place span left right * size + size ≤ length memory.old }
     requires named { NamedBinaries binaries.now size }
-    ensures { Into scale size (place span left right * size) (Pile (across side left right + 1) (λ m. Joins scale (Gap side) binaries.now (shorter side span left right m * size) ((m - 1) * size) memory.old)) memory.old memory.new }
+    ensures { Into S.scale size (place span left right * size) (Pile (across side left right + 1) (λ m. Joins S.scale (Gap side) binaries.now (shorter side span left right m * size) ((m - 1) * size) memory.old)) memory.old memory.new }
 {
     let base = row_of(span, left, right) * size;
     for m in 1..words_across(side, left, right) + 1 {
@@ -106,9 +106,9 @@ fn pair_row<S: Scale>(
     requires few { span ≤ 40 }
     requires short { left + right < span }
     requires room { place span left right * rules.now.categories + rules.now.categories ≤ length memory.old }
-    requires lengths { Insides scale (grammar rules.now) rules.now.categories span memory.old }
-    requires before { Outsides scale (grammar rules.now) rules.now.categories span (left + right) left memory.old }
-    ensures exact { Outsides scale (grammar rules.now) rules.now.categories span (left + right) (left + 1) memory.new }
+    requires lengths { Insides S.scale (grammar rules.now) rules.now.categories span memory.old }
+    requires before { Outsides S.scale (grammar rules.now) rules.now.categories span (left + right) left memory.old }
+    ensures exact { Outsides S.scale (grammar rules.now) rules.now.categories span (left + right) (left + 1) memory.new }
     ensures beside { Beside rules.now.categories (place span left right * rules.now.categories) memory.old memory.new }
 {
     let size = rules.categories;
@@ -140,10 +140,10 @@ fn pairs_of<S: Scale>(rules: &Rules, memory: &mut [Option<S::Cost>], span: usize
     requires few { span ≤ 40 }
     requires short { n < span }
     requires room { (span + tri span) * rules.now.categories ≤ length memory.old }
-    requires lengths { Insides scale (grammar rules.now) rules.now.categories span memory.old }
-    requires before { Outsides scale (grammar rules.now) rules.now.categories span n 0 memory.old }
-    ensures lengths { Insides scale (grammar rules.now) rules.now.categories span memory.new }
-    ensures exact { Outsides scale (grammar rules.now) rules.now.categories span (n + 1) 0 memory.new }
+    requires lengths { Insides S.scale (grammar rules.now) rules.now.categories span memory.old }
+    requires before { Outsides S.scale (grammar rules.now) rules.now.categories span n 0 memory.old }
+    ensures lengths { Insides S.scale (grammar rules.now) rules.now.categories span memory.new }
+    ensures exact { Outsides S.scale (grammar rules.now) rules.now.categories span (n + 1) 0 memory.new }
     ensures past { (k : ℕ) → (span + tri span) * rules.now.categories ≤ k → cell memory.new k ≡ cell memory.old k }
 {
     for left in 0..n + 1 {
@@ -155,8 +155,8 @@ fn pairs_of<S: Scale>(rules: &Rules, memory: &mut [Option<S::Cost>], span: usize
 pub fn fill_pairs<S: Scale>(rules: &Rules, memory: &mut [Option<S::Cost>], span: usize)
     requires few { span ≤ 40 }
     requires room { (span + tri span) * rules.now.categories ≤ length memory.old }
-    requires lengths { Insides scale (grammar rules.now) rules.now.categories span memory.old }
-    ensures exact { Summed scale (grammar rules.now) rules.now.categories span memory.new }
+    requires lengths { Insides S.scale (grammar rules.now) rules.now.categories span memory.old }
+    ensures exact { Summed S.scale (grammar rules.now) rules.now.categories span memory.new }
     ensures past { (k : ℕ) → (span + tri span) * rules.now.categories ≤ k → cell memory.new k ≡ cell memory.old k }
 {
     for n in 0..span {

@@ -37,7 +37,7 @@ fn step_of(sought: Sought, rule: BinaryRule) -> Step
 // Empties the row at a base.
 pub fn empty<S: Scale>(memory: &mut [Option<S::Cost>], size: usize, base: usize)
     requires { base + size ≤ length memory.old }
-    ensures { Fresh scale size base (λ _ _. ⊥) memory.old memory.new }
+    ensures { Fresh S.scale size base (λ _ _. ⊥) memory.old memory.new }
 {
     for i in 0..size {
         memory[base + i] = None;
@@ -55,7 +55,7 @@ pub fn close<S: Scale>(
     requires room { base + size ≤ length memory.old }
     requires few { size ≤ 64 }
     requires named { NamedChains chains.now size }
-    ensures { ClosedRow scale direction chains.now size base memory.old memory.new }
+    ensures { ClosedRow S.scale direction chains.now size base memory.old memory.new }
 {
     settle::<S>(chains, direction, &mut memory[base..base + size]);
 }
@@ -74,7 +74,7 @@ fn apply<S: Scale>(
     requires first { one + size ≤ base }
     requires second { two + size ≤ base }
     requires named { (rule.category < size) × (rule.left < size) × (rule.right < size) }
-    ensures { Into scale size base (Joined scale sought one two memory.old rule) memory.old memory.new }
+    ensures { Into S.scale size base (Joined S.scale sought one two memory.old rule) memory.old memory.new }
 {
     let step = step_of(sought, rule);
     let first = read::<S>(memory, one + step.first);
@@ -106,7 +106,7 @@ pub fn combine<S: Scale>(
     requires first { one + size ≤ base }
     requires second { two + size ≤ base }
     requires named { NamedBinaries binaries.now size }
-    ensures { Into scale size base (Joins scale sought binaries.now one two memory.old) memory.old memory.new }
+    ensures { Into S.scale size base (Joins S.scale sought binaries.now one two memory.old) memory.old memory.new }
 {
     for rule in binaries {
         apply::<S>(*rule, sought, memory, size, one, two, base);

@@ -16,7 +16,7 @@ read-from-requires g c =
     let chains = c.args.chains.now in
     let j = c.loop-rule.rule-index in
     let small = named_small c.args.direction (get_or chains j zero_rule) (length c.args.row.now) (c.requires j (get_or chains j zero_rule) (at_read chains j zero_rule c.loop-rule-test.true)) in
-    subst (λ (n : ℕ). n < length c.args.row.now) (sym c.source-of.ensures) small.0
+    subst (λ (n : ℕ). n < length c.args.row.now) (sym c.source_of.ensures) small.0
 
 pub read-to-requires : goal.read-to-requires
 unfolding zero_rule
@@ -24,7 +24,7 @@ read-to-requires g c =
     let chains = c.args.chains.now in
     let j = c.loop-rule.rule-index in
     let small = named_small c.args.direction (get_or chains j zero_rule) (length c.args.row.now) (c.requires j (get_or chains j zero_rule) (at_read chains j zero_rule c.loop-rule-test.true)) in
-    subst (λ (n : ℕ). n < length c.args.row.now) (sym c.target-of.ensures) small.1
+    subst (λ (n : ℕ). n < length c.args.row.now) (sym c.target_of.ensures) small.1
 
 pub returns-then-lowers : goal.returns-then-lowers
 unfolding zero_rule
@@ -35,7 +35,7 @@ returns-then-lowers g c =
     let j = c.loop-rule.rule-index in
     let rule = get_or chains j zero_rule in
     let active : lowering s c.args.direction chains (cell row) rule ≡ true =
-    sym (ap₂ (lowered s rule.weight) (c.read-from.ensures ∙ ap (cell row) c.source-of.ensures) (c.read-to.ensures ∙ ap (cell row) c.target-of.ensures)) ∙ sym c.lowers.ensures ∙ c.if-lowers.true in
+    sym (ap₂ (lowered s rule.weight) (c.read-from.ensures ∙ ap (cell row) c.source_of.ensures) (c.read-to.ensures ∙ ap (cell row) c.target_of.ensures)) ∙ sym c.lowers.ensures ∙ c.if-lowers.true in
     record {
       yes = λ e. absurd (not_both e refl);
       no = λ _. closed_stop s c.args.direction chains (cell row) j zero_rule c.loop-rule-test.true active;
@@ -50,7 +50,7 @@ loop-rule-preserved g c =
     let j = c.loop-rule.rule-index in
     let rule = get_or chains j zero_rule in
     let idle : lowering s c.args.direction chains (cell row) rule ≡ false =
-    sym (ap₂ (lowered s rule.weight) (c.read-from.ensures ∙ ap (cell row) c.source-of.ensures) (c.read-to.ensures ∙ ap (cell row) c.target-of.ensures)) ∙ sym c.lowers.ensures ∙ c.if-lowers.false in
+    sym (ap₂ (lowered s rule.weight) (c.read-from.ensures ∙ ap (cell row) c.source_of.ensures) (c.read-to.ensures ∙ ap (cell row) c.target_of.ensures)) ∙ sym c.lowers.ensures ∙ c.if-lowers.false in
     closed_more s c.args.direction chains (cell row) j zero_rule idle c.loop-rule.invariant
 
 pub returns : goal.returns

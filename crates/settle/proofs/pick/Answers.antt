@@ -4,7 +4,7 @@ use Rattle.settle.specs.Chains.{Picked}
 use Rattle.settle.proofs.Growing.{cell_read}
 use Rattle.settle.proofs.Picking.{picked_take, picked_skip}
 use Rattle.settle.proofs.pick.Goals as goal
-use Rattle.settle.proofs.pick.Goals.{in-Some+then-not-settled-i, in-Some+else-not-settled-i, in-default}
+use Rattle.settle.proofs.pick.Goals.{in-Some+then-not-settled-i, in-Some+else-not-settled-i, in_default}
 
 pub loop-i-preserved : goal.loop-i-preserved
 loop-i-preserved g c =
@@ -18,7 +18,7 @@ loop-i-preserved g c =
     elim c.match-here.branch [
       | in-Some+then-not-settled-i w ↦ subst (λ o. Picked s row settled (i + 1) o) (sym (w.best-is ∙ w.better-best.ensures)) (picked_take lawful row settled i best w.in-Some.cost w.if-not-settled-i.true (read ∙ w.in-Some.is) c.loop-i.invariant)
       | in-Some+else-not-settled-i w ↦ subst (λ o. Picked s row settled (i + 1) o) (sym w.best-is) (picked_skip lawful row settled i best (λ und. absurd (not_both w.if-not-settled-i.false und)) c.loop-i.invariant)
-      | in-default w ↦ subst (λ o. Picked s row settled (i + 1) o) (sym w.best-is) (picked_skip lawful row settled i best (λ und. read ∙ w.in-default.is) c.loop-i.invariant)
+      | in_default w ↦ subst (λ o. Picked s row settled (i + 1) o) (sym w.best-is) (picked_skip lawful row settled i best (λ und. read ∙ w.in_default.is) c.loop-i.invariant)
     ]
 
 pub returns : goal.returns

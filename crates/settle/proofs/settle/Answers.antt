@@ -30,4 +30,4 @@ loop-found-preserved g c =
     (omega (arith, length-set settled a true, c.loop-found.invariant.0), going_more g.met.S.Scale.lawful c.loop-found.row c.relax.new.row a c.in-Some.found.1 inside c.loop-found.invariant.1 picked c.relax.ensures)
 
 pub returns : goal.returns
-returns g c = going_all g.met.S.Scale.lawful c.loop-found.row (subst (λ n. NamedChains c.args.chains.now n) (sym c.loop-found.auto.row) c.requires.named) c.loop-found.invariant.1 c.in-default.ensures
+returns g c = going_all g.met.S.Scale.lawful c.loop-found.row (subst (λ n. NamedChains c.args.chains.now n) (sym c.loop-found.auto.row) c.requires.named) c.loop-found.invariant.1 c.in_default.ensures

@@ -10,8 +10,8 @@ rest_same : {Cost : Type 0} (n : ℕ) (before after : List (Option Cost)) → le
 rest_same n before after long same = ext_get_or None (drop n after) (drop n before) (length-drop n after ∙ ap (λ k. k - n) long ∙ sym (length-drop n before))
     (λ i h. get_or-drop n after i None ∙ same (n + i) (omega arith) ∙ sym (get_or-drop n before i None))
 
-pub fill-lengths-requires : goal.fill-lengths-requires
-fill-lengths-requires g c =
+pub fill_lengths-requires : goal.fill_lengths-requires
+fill_lengths-requires g c =
     let size = c.args.rules.now.categories in
     let span = c.widest-span.result in
     record {
@@ -19,33 +19,36 @@ fill-lengths-requires g c =
       room = omega (arith, lengths_all size span, entries_is size span, c.widest-span.ensures.fits);
     }
 
-pub fill-pairs-requires : goal.fill-pairs-requires
-fill-pairs-requires g c =
+pub fill_pairs-requires : goal.fill_pairs-requires
+fill_pairs-requires g c =
     let size = c.args.rules.now.categories in
     let span = c.widest-span.result in
     record {
       few = c.widest-span.ensures.few;
-      room = omega (arith, entries_is size span, c.widest-span.ensures.fits, c.fill-lengths.auto.memory);
-      lengths = c.fill-lengths.ensures.exact;
+      room = omega (arith, entries_is size span, c.widest-span.ensures.fits, c.fill_lengths.auto.memory);
+      lengths = c.fill_lengths.ensures.exact;
     }
 
-pub invariant-of-result : goal.invariant-of-result
-invariant-of-result g c =
+pub invariant_of-result : goal.invariant_of-result
+invariant_of-result g c =
     let size = c.args.rules.now.categories in
     let span = c.widest-span.result in
-    (c.widest-span.ensures.few, (omega (arith, entries_is size span, c.widest-span.ensures.fits, c.fill-lengths.auto.memory, c.fill-pairs.auto.memory), tt))
+    record {
+      few = c.widest-span.ensures.few;
+      room = omega (arith, entries_is size span, c.widest-span.ensures.fits, c.fill_lengths.auto.memory, c.fill_pairs.auto.memory);
+    }
 
 pub returns : goal.returns
 returns g c =
     let size = c.args.rules.now.categories in
     let span = c.widest-span.result in
-    let long : length c.fill-pairs.new.memory ≡ length c.args.memory.now = c.fill-pairs.auto.memory ∙ c.fill-lengths.auto.memory in
+    let long : length c.fill_pairs.new.memory ≡ length c.args.memory.now = c.fill_pairs.auto.memory ∙ c.fill_lengths.auto.memory in
     record {
       categories = refl;
       span = c.widest-span.ensures;
-      exact = c.fill-pairs.ensures.exact;
-      remains = rest_same (entries_for size span) c.args.memory.now c.fill-pairs.new.memory long
-          (λ k h. c.fill-pairs.ensures.past k (omega (arith, entries_is size span)) ∙ c.fill-lengths.ensures.past k (omega (arith, entries_is size span, lengths_all size span)));
+      exact = c.fill_pairs.ensures.exact;
+      remains = rest_same (entries_for size span) c.args.memory.now c.fill_pairs.new.memory long
+          (λ k h. c.fill_pairs.ensures.past k (omega (arith, entries_is size span)) ∙ c.fill_lengths.ensures.past k (omega (arith, entries_is size span, lengths_all size span)));
       long = long;
       lent = refl;
     }

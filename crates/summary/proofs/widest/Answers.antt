@@ -13,7 +13,7 @@ returns-then-room-categories c =
       few = omega arith;
       fits = subst (λ (n : ℕ). n ≤ room) (sym (entries_is size span)) c.loop-span.invariant;
       most = λ k few fits. elim (dec_lt span k) [
-        | yes h ↦ absurd (room_lacks (k + tri k) room size c.requires (omega (arith, rows_grow (span + 1) k (omega arith), c.rows-for.ensures, c.if-room-categories.true)) (subst (λ (n : ℕ). n ≤ room) (entries_is size k) fits))
+        | yes h ↦ absurd (room_lacks (k + tri k) room size c.requires (omega (arith, rows_grow (span + 1) k (omega arith), c.rows_for.ensures, c.if-room-categories.true)) (subst (λ (n : ℕ). n ≤ room) (entries_is size k) fits))
         | no h ↦ omega arith
       ];
     }
@@ -21,7 +21,7 @@ returns-then-room-categories c =
 pub loop-span-preserved : goal.loop-span-preserved
 loop-span-preserved c =
     let span = c.loop-span.span in
-    room_fits (span + 1 + tri (span + 1)) c.args.room c.args.categories (omega (arith, c.rows-for.ensures, c.if-room-categories.false))
+    room_fits (span + 1 + tri (span + 1)) c.args.room c.args.categories (omega (arith, c.rows_for.ensures, c.if-room-categories.false))
 
 pub returns : goal.returns
 returns c =

@@ -7,17 +7,17 @@ use Rattle.summary.proofs.SummaryCostBound.entry.Goals as goal
 inside : (size span left right row : ℕ) → left + right < span → row ≡ place span left right → row * size + size ≤ (span + tri span) * size
 inside size span left right row short is = subst (λ (i : ℕ). i * size + size ≤ (span + tri span) * size) (sym is) (place_fits size span (left + right) left right refl short)
 
-pub overflow-mul-base : goal.overflow-mul-base
-overflow-mul-base g c =
+pub overflow_mul-base : goal.overflow_mul-base
+overflow_mul-base g c =
     let b = c.args.self.now in
-    omega (arith, inside b.categories b.span c.args.left c.args.right c.row-of.result (omega arith) c.row-of.ensures, b.room)
+    omega (arith, inside b.categories b.span c.args.left c.args.right c.row_of.result (omega arith) c.row_of.ensures, b.room)
 
-pub overflow-add-base : goal.overflow-add-base
-overflow-add-base g c =
+pub overflow_add-base : goal.overflow_add-base
+overflow_add-base g c =
     let b = c.args.self.now in
-    omega (arith, inside b.categories b.span c.args.left c.args.right c.row-of.result (omega arith) c.row-of.ensures, b.room)
+    omega (arith, inside b.categories b.span c.args.left c.args.right c.row_of.result (omega arith) c.row_of.ensures, b.room)
 
 pub read-requires : goal.read-requires
 read-requires g c =
     let b = c.args.self.now in
-    omega (arith, inside b.categories b.span c.args.left c.args.right c.row-of.result (omega arith) c.row-of.ensures, b.room)
+    omega (arith, inside b.categories b.span c.args.left c.args.right c.row_of.result (omega arith) c.row_of.ensures, b.room)

@@ -4,11 +4,11 @@ use Rattle.summary.specs.Filling.{Into, Joins, Pile}
 use Rattle.summary.proofs.Placing.{row_before, into_none, into_as, into_pile, joins_same}
 use Rattle.summary.proofs.lengths.pair_lengths.Goals as goal
 
-pub overflow-mul-m : goal.overflow-mul-m
-overflow-mul-m g c = omega (arith, row_before c.args.size (c.loop-m.m - 1) (c.args.n - 1) (omega arith), c.requires.room)
+pub overflow_mul-m : goal.overflow_mul-m
+overflow_mul-m g c = omega (arith, row_before c.args.size (c.loop-m.m - 1) (c.args.n - 1) (omega arith), c.requires.room)
 
-pub overflow-mul-n : goal.overflow-mul-n
-overflow-mul-n g c = omega (arith, row_before c.args.size (c.args.n - c.loop-m.m - 1) (c.args.n - 1) (omega (arith, c.loop-m.auto.m)), c.requires.room)
+pub overflow_mul-n : goal.overflow_mul-n
+overflow_mul-n g c = omega (arith, row_before c.args.size (c.args.n - c.loop-m.m - 1) (c.args.n - 1) (omega (arith, c.loop-m.auto.m)), c.requires.room)
 
 pub combine-requires : goal.combine-requires
 combine-requires g c =

@@ -9,9 +9,9 @@ use Rattle.summary.proofs.lengths.seed.Goals as goal
 zero_rule : WordRule
 zero_rule = record { category = 0; word = 0; weight = 0 }
 
-pub overflow-add-base : goal.overflow-add-base
+pub overflow_add-base : goal.overflow_add-base
 unfolding zero_rule
-overflow-add-base g c =
+overflow_add-base g c =
     let words = c.args.words.now in
     let j = c.loop-rule.rule-index in
     omega (arith, c.requires.named j (get_or words j zero_rule) (at_read words j zero_rule c.loop-rule-test.true), c.requires.room, c.loop-rule.auto.memory, c.from.ensures)

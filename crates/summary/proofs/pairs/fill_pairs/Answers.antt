@@ -7,8 +7,8 @@ use Rattle.summary.proofs.pairs.fill_pairs.Goals as goal
 pub loop-n-init : goal.loop-n-init
 loop-n-init g c = (c.requires.lengths, (λ A a b early. absurd (earlier_none a b early)), λ k h. refl)
 
-pub pairs-of-requires : goal.pairs-of-requires
-pairs-of-requires g c = record {
+pub pairs_of-requires : goal.pairs_of-requires
+pairs_of-requires g c = record {
   few = c.requires.few;
   short = c.loop-n-test.true;
   room = omega (arith, c.requires.room, c.loop-n.auto.memory);
@@ -17,7 +17,7 @@ pairs-of-requires g c = record {
 }
 
 pub loop-n-preserved : goal.loop-n-preserved
-loop-n-preserved g c = (c.pairs-of.ensures.lengths, c.pairs-of.ensures.exact, λ k h. c.pairs-of.ensures.past k h ∙ c.loop-n.invariant.2 k h)
+loop-n-preserved g c = (c.pairs_of.ensures.lengths, c.pairs_of.ensures.exact, λ k h. c.pairs_of.ensures.past k h ∙ c.loop-n.invariant.2 k h)
 
 pub returns : goal.returns
 returns g c =

@@ -14,18 +14,18 @@ around_before side size span left right m one h = row_before size (shorter side 
 beside_before : (side : Side) (size span left right m : ℕ) → left + right < span → 1 ≤ m → m ≤ across side left right → (m - 1) * size + size ≤ place span left right * size
 beside_before side size span left right m short one h = row_before size (m - 1) (place span left right) (omega (arith, across_few side left right))
 
-pub overflow-mul-around : goal.overflow-mul-around
-overflow-mul-around g c =
+pub overflow_mul-around : goal.overflow_mul-around
+overflow_mul-around g c =
     let size = c.args.size in
-    let below : c.loop-m.m ≤ across c.args.side c.args.left c.args.right = omega (arith, c.words-across-m-end.ensures, c.loop-m-test.true) in
+    let below : c.loop-m.m ≤ across c.args.side c.args.left c.args.right = omega (arith, c.words_across-m-end.ensures, c.loop-m-test.true) in
     let low = around_before c.args.side size c.args.span c.args.left c.args.right c.loop-m.m c.loop-m.auto.m below in
-    let here = subst (λ (i : ℕ). i * size + size ≤ place c.args.span c.args.left c.args.right * size) (sym c.shorter-row.ensures) low in
+    let here = subst (λ (i : ℕ). i * size + size ≤ place c.args.span c.args.left c.args.right * size) (sym c.shorter_row.ensures) low in
     omega (arith, here, c.requires.room)
 
-pub overflow-mul-m : goal.overflow-mul-m
-overflow-mul-m g c =
+pub overflow_mul-m : goal.overflow_mul-m
+overflow_mul-m g c =
     let size = c.args.size in
-    let below : c.loop-m.m ≤ across c.args.side c.args.left c.args.right = omega (arith, c.words-across-m-end.ensures, c.loop-m-test.true) in
+    let below : c.loop-m.m ≤ across c.args.side c.args.left c.args.right = omega (arith, c.words_across-m-end.ensures, c.loop-m-test.true) in
     omega (arith, beside_before c.args.side size c.args.span c.args.left c.args.right c.loop-m.m c.requires.short c.loop-m.auto.m below, c.requires.room)
 
 pub combine-requires : goal.combine-requires
@@ -36,12 +36,12 @@ combine-requires g c =
     let left = c.args.left in
     let right = c.args.right in
     let m = c.loop-m.m in
-    let row = sym c.row-of.ensures in
-    let below : m ≤ across side left right = omega (arith, c.words-across-m-end.ensures, c.loop-m-test.true) in
+    let row = sym c.row_of.ensures in
+    let below : m ≤ across side left right = omega (arith, c.words_across-m-end.ensures, c.loop-m-test.true) in
     let fits : place span left right * size + size ≤ length c.loop-m.memory = omega (arith, c.requires.room, c.loop-m.auto.memory) in
     record {
       room = subst (λ (i : ℕ). i * size + size ≤ length c.loop-m.memory) row fits;
-      first = subst₂ (λ (i j : ℕ). i * size + size ≤ j * size) (sym c.shorter-row.ensures) row (around_before side size span left right m c.loop-m.auto.m below);
+      first = subst₂ (λ (i j : ℕ). i * size + size ≤ j * size) (sym c.shorter_row.ensures) row (around_before side size span left right m c.loop-m.auto.m below);
       second = subst (λ (i : ℕ). (m - 1) * size + size ≤ i * size) row (beside_before side size span left right m c.requires.short c.loop-m.auto.m below);
       named = c.requires.named;
     }
@@ -60,11 +60,11 @@ loop-m-preserved g c =
     let was = c.args.memory.now in
     let now = c.loop-m.memory in
     let base = place span left right * size in
-    let below : m ≤ across side left right = omega (arith, c.words-across-m-end.ensures, c.loop-m-test.true) in
+    let below : m ≤ across side left right = omega (arith, c.words_across-m-end.ensures, c.loop-m-test.true) in
     let low = around_before side size span left right m c.loop-m.auto.m below in
     let low' = beside_before side size span left right m c.requires.short c.loop-m.auto.m below in
     let ahead = c.loop-m.invariant.beside.ahead in
-    let more = subst₂ (λ (i j : ℕ). Into s size (j * size) (Joins s (Gap side) rules (i * size) ((m - 1) * size) now) now c.combine.new.memory) c.shorter-row.ensures c.row-of.ensures c.combine.ensures in
+    let more = subst₂ (λ (i j : ℕ). Into s size (j * size) (Joins s (Gap side) rules (i * size) ((m - 1) * size) now) now c.combine.new.memory) c.shorter_row.ensures c.row_of.ensures c.combine.ensures in
     into_pile lawful c.loop-m.auto.m c.loop-m.invariant (into_as lawful more
     (joins_same now was size base c.requires.named low low' (λ k h. sym (ahead k h)))
     (joins_same was now size base c.requires.named low low' ahead))
@@ -77,5 +77,5 @@ returns g c =
     let span = c.args.span in
     let left = c.args.left in
     let right = c.args.right in
-    let all : c.loop-m.m ≡ across side left right + 1 = omega (arith, c.loop-m.auto.m, c.loop-m.auto.m-end, c.words-across-m-end.ensures) in
+    let all : c.loop-m.m ≡ across side left right + 1 = omega (arith, c.loop-m.auto.m, c.loop-m.auto.m-end, c.words_across-m-end.ensures) in
     subst (λ (j : ℕ). Into s size (place span left right * size) (Pile j (λ m. Joins s (Gap side) c.args.binaries.now (shorter side span left right m * size) ((m - 1) * size) c.args.memory.now)) c.args.memory.now c.loop-m.memory) all c.loop-m.invariant

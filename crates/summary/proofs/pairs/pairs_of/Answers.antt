@@ -5,8 +5,8 @@ use Rattle.summary.proofs.Order.{place_fits, earlier_next, lengths_first}
 use Rattle.summary.proofs.Longer.{insides_same}
 use Rattle.summary.proofs.pairs.pairs_of.Goals as goal
 
-pub pair-row-requires : goal.pair-row-requires
-pair-row-requires g c =
+pub pair_row-requires : goal.pair_row-requires
+pair_row-requires g c =
     let s = g.S.Scale.scale in
     let rules = c.args.rules.now in
     let size = rules.categories in
@@ -31,10 +31,10 @@ loop-left-preserved g c =
     let left = c.loop-left.left in
     let n = c.args.n in
     let sum : left + (n - left) ≡ n = omega arith in
-    let beside = c.pair-row.ensures.beside in
+    let beside = c.pair_row.ensures.beside in
     let after = place_fits size span n left (n - left) sum c.requires.short in (
-      insides_same s (grammar rules) size span c.loop-left.memory c.pair-row.new.memory (λ k h. beside.ahead k (omega (arith, lengths_first size span left (n - left)))) c.loop-left.invariant.0,
-      subst (λ (i : ℕ). Outsides s (grammar rules) size span i (left + 1) c.pair-row.new.memory) sum c.pair-row.ensures.exact,
+      insides_same s (grammar rules) size span c.loop-left.memory c.pair_row.new.memory (λ k h. beside.ahead k (omega (arith, lengths_first size span left (n - left)))) c.loop-left.invariant.0,
+      subst (λ (i : ℕ). Outsides s (grammar rules) size span i (left + 1) c.pair_row.new.memory) sum c.pair_row.ensures.exact,
       λ k h. beside.past k (omega (arith, after)) ∙ c.loop-left.invariant.2 k h,
     )
 

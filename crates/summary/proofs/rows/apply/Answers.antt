@@ -11,34 +11,34 @@ use Rattle.summary.proofs.rows.apply.Goals as goal
 small : (sought : Sought) (r : BinaryRule) (n : ℕ) (t : Step) → t ≡ step sought r → (r.category < n) × (r.left < n) × (r.right < n) → (t.into < n) × (t.first < n) × (t.second < n)
 small sought r n t is named = subst (λ (q : Step). (q.into < n) × (q.first < n) × (q.second < n)) (sym is) (step_small sought r n named)
 
-pub overflow-add-one : goal.overflow-add-one
-overflow-add-one g c =
-    let h = small c.args.sought c.args.rule c.args.size c.step-of-step.result c.step-of-step.ensures c.requires.named in
+pub overflow_add-one : goal.overflow_add-one
+overflow_add-one g c =
+    let h = small c.args.sought c.args.rule c.args.size c.step_of-step.result c.step_of-step.ensures c.requires.named in
     omega (arith, h.1, c.requires.first)
 
 pub read-first-requires : goal.read-first-requires
 read-first-requires g c =
-    let h = small c.args.sought c.args.rule c.args.size c.step-of-step.result c.step-of-step.ensures c.requires.named in
+    let h = small c.args.sought c.args.rule c.args.size c.step_of-step.result c.step_of-step.ensures c.requires.named in
     omega (arith, h.1, c.requires.first, c.requires.room)
 
-pub overflow-add-two : goal.overflow-add-two
-overflow-add-two g c =
-    let h = small c.args.sought c.args.rule c.args.size c.step-of-step.result c.step-of-step.ensures c.requires.named in
+pub overflow_add-two : goal.overflow_add-two
+overflow_add-two g c =
+    let h = small c.args.sought c.args.rule c.args.size c.step_of-step.result c.step_of-step.ensures c.requires.named in
     omega (arith, h.2, c.requires.second)
 
 pub read-second-requires : goal.read-second-requires
 read-second-requires g c =
-    let h = small c.args.sought c.args.rule c.args.size c.step-of-step.result c.step-of-step.ensures c.requires.named in
+    let h = small c.args.sought c.args.rule c.args.size c.step_of-step.result c.step_of-step.ensures c.requires.named in
     omega (arith, h.2, c.requires.second, c.requires.room)
 
-pub overflow-add-base : goal.overflow-add-base
-overflow-add-base g c =
-    let h = small c.args.sought c.args.rule c.args.size c.step-of-step.result c.step-of-step.ensures c.requires.named in
+pub overflow_add-base : goal.overflow_add-base
+overflow_add-base g c =
+    let h = small c.args.sought c.args.rule c.args.size c.step_of-step.result c.step_of-step.ensures c.requires.named in
     omega (arith, h.0, c.requires.room)
 
 pub offer-requires : goal.offer-requires
 offer-requires g c =
-    let h = small c.args.sought c.args.rule c.args.size c.step-of-step.result c.step-of-step.ensures c.requires.named in
+    let h = small c.args.sought c.args.rule c.args.size c.step_of-step.result c.step_of-step.ensures c.requires.named in
     omega (arith, h.0, c.requires.room)
 
 pub returns : goal.returns
@@ -50,7 +50,7 @@ returns g c =
     let cells = c.args.memory.now in
     let y = c.in-Some.y in
     let z = c.in-Some-second.z in
-    let step_is = c.step-of-step.ensures in
+    let step_is = c.step_of-step.ensures in
     let first = ap (λ (q : Step). cell cells (c.args.one + q.first)) (sym step_is) ∙ sym c.read-first.ensures ∙ c.in-Some.is in
     let second = ap (λ (q : Step). cell cells (c.args.two + q.second)) (sym step_is) ∙ sym c.read-second.ensures ∙ c.in-Some-second.is in
     let cost = c.join-2.ensures ∙ ap₂ s.join c.price.ensures c.join.ensures in
