@@ -1,12 +1,11 @@
 -- A cell that is filled is closed under the rules, and holds only what they make.
-use Rattle.std.proofs.Common.{◌≡◌, ℕ, ◌+◌, ◌-◌, ◌<◌, ◌≤◌, ◌⊎◌, List, length, get_or, Some, None, Option, sym, refl, ap, ◌∙◌, subst, inl, inr, ⊎_elim, arith}
-use native.Mathlib.Decide.{ℕ_discrete, dec_lt}
+use Rattle.std.proofs.Common.{◌≡◌, ℕ, ◌+◌, ◌-◌, ◌≤◌, List, length, get_or, Some, None, Option, sym, refl, ap, ◌∙◌, subst, ⊎_elim, arith}
 use Rattle.std.proofs.lemmas.List.{get_or_default}
 use Rattle.derivation.specs.Named.{At}
 use Rattle.derivation.specs.Grammar.{Grammar}
 use Rattle.derivation.specs.Scale.{Scale, Lawful, Within}
 use Rattle.derivation.specs.Bounds.{Entries, Filled}
-use Rattle.derivation.specs.Table.{Table, ClosedAt}
+use Rattle.derivation.specs.Table.{Table}
 use Rattle.derivation.proofs.Pruning.{filled_map}
 use Rattle.derivation.proofs.Table.{found}
 use Rattle.bound.specs.Gate.{Open}

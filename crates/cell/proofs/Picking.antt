@@ -1,5 +1,5 @@
 -- The cheapest of the places seen.
-use Rattle.std.proofs.Common.{◌≡◌, ℕ, ◌+◌, ◌<◌, Bool, true, false, cond, List, length, get_or, Some, None, Option, sym, refl, ap, ◌∙◌, subst, arith}
+use Rattle.std.proofs.Common.{◌≡◌, ℕ, ◌+◌, Bool, true, false, cond, List, get_or, Some, None, Option, sym, refl, subst, arith}
 use native.Mathlib.Decide.{ℕ_discrete}
 use Rattle.derivation.specs.Scale.{Scale, Lawful, Within}
 use Rattle.table.specs.Column.{Column}

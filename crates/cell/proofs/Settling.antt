@@ -1,13 +1,11 @@
 -- What holds while a column is settled, category by category, the cheapest first.
-use Rattle.std.proofs.Common.{◌≡◌, ℕ, zero, suc, ◌+◌, ◌<◌, ◌≤◌, Bool, true, false, cond, ◌⊎◌, List, [], ◌∷◌, length, get_or, set, Some, None, Option, sym, refl, ap, ◌∙◌, subst, inl, inr, ⊎_elim, arith, get_or-set_other, get_or-set_same}
-use native.Mathlib.Decide.{ℕ_discrete, dec_lt}
-use Rattle.std.proofs.lemmas.List.{get_or_past}
+use Rattle.std.proofs.Common.{◌≡◌, ℕ, zero, suc, ◌<◌, Bool, true, false, ◌⊎◌, List, [], ◌∷◌, length, get_or, set, Some, None, sym, refl, ◌∙◌, subst, inl, inr, ⊎_elim, arith, get_or-set_other, get_or-set_same}
+use native.Mathlib.Decide.{ℕ_discrete}
 use Rattle.derivation.specs.declared.rules.ChainRule.{ChainRule}
 use Rattle.derivation.specs.Named.{At, NamedChains}
 use Rattle.derivation.specs.Scale.{Scale, Lawful, Within}
 use Rattle.derivation.specs.Bounds.{Filled}
 use Rattle.derivation.proofs.Pruning.{filled_map, grows}
-use Rattle.derivation.proofs.Table.{found}
 use Rattle.table.specs.Column.{Column, Grown}
 use Rattle.cell.specs.Rules.{Link, Picked, Chained, here, above, Settled}
 use Rattle.derivation.proofs.Laws.{not_both, within_refl}

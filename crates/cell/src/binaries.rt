@@ -25,9 +25,9 @@ fn paired<S: Scale, C: Chart>(
     m: usize,
     e: usize,
 ) -> Option<S::Cost>
-    requires ready { Ready kinds (seen chart.now) (length costs.now) }
+    requires ready { Ready kinds (C.seen chart.now) (length costs.now) }
     requires inner { m < e }
-    ensures { result ≡ joined scale rule.weight (view scale.neutral kinds (seen chart.now) costs.now rule.left b m) (view scale.neutral kinds (seen chart.now) costs.now rule.right (m + 1) e) }
+    ensures { result ≡ joined S.scale rule.weight (view S.scale.neutral kinds (C.seen chart.now) costs.now rule.left b m) (view S.scale.neutral kinds (C.seen chart.now) costs.now rule.right (m + 1) e) }
 {
     let Some(x) = known::<S, C>(chart, costs, kinds, b, m, rule.left as usize) else {
         return None;
@@ -49,13 +49,13 @@ fn meets<S: Scale, C: Chart, B: Bound<S>>(
     e: usize,
     gate: &Gate<'_, S::Cost, B>,
 )
-    requires placed { Placed kinds b e (seen chart.old) (length costs.old) }
+    requires placed { Placed kinds b e (C.seen chart.old) (length costs.old) }
     requires low { b ≤ from }
     requires high { from < e }
-    requires lowest { (k : ℕ) → k < from → Splits (seen chart.old).holds rule.left rule.right b e k → ⊥ }
+    requires lowest { (k : ℕ) → k < from → Splits (C.seen chart.old).holds rule.left rule.right b e k → ⊥ }
     requires kind { rule.category < kinds }
-    ensures framed { Framed scale.neutral kinds b e (seen chart.old) costs.old (seen chart.new) costs.new }
-    ensures grown { Grown scale (Open scale gate.now.ceiling (limit gate.now.bound.now) gate.now.left gate.now.right) (Meet scale rule (view scale.neutral kinds (seen chart.old) costs.old) b e e) (column scale.neutral kinds b e (seen chart.old) costs.old) (column scale.neutral kinds b e (seen chart.new) costs.new) }
+    ensures framed { Framed S.scale.neutral kinds b e (C.seen chart.old) costs.old (C.seen chart.new) costs.new }
+    ensures grown { Grown S.scale (Open S.scale gate.now.ceiling (B.limit gate.now.bound.now) gate.now.left gate.now.right) (Meet S.scale rule (view S.scale.neutral kinds (C.seen chart.old) costs.old) b e e) (column S.scale.neutral kinds b e (C.seen chart.old) costs.old) (column S.scale.neutral kinds b e (C.seen chart.new) costs.new) }
 {
     for m in from..e {
         if let Some(cost) = paired::<S, C>(rule, chart, costs, kinds, b, m, e) {
@@ -83,10 +83,10 @@ pub fn pairs<S: Scale, C: Chart, B: Bound<S>>(
     e: usize,
     gate: &Gate<'_, S::Cost, B>,
 )
-    requires placed { Placed kinds b e (seen chart.old) (length costs.old) }
+    requires placed { Placed kinds b e (C.seen chart.old) (length costs.old) }
     requires named { NamedBinaries rules.now kinds }
-    ensures framed { Framed scale.neutral kinds b e (seen chart.old) costs.old (seen chart.new) costs.new }
-    ensures grown { Grown scale (Open scale gate.now.ceiling (limit gate.now.bound.now) gate.now.left gate.now.right) (Pair scale rules.now (view scale.neutral kinds (seen chart.old) costs.old) b e (length rules.now)) (column scale.neutral kinds b e (seen chart.old) costs.old) (column scale.neutral kinds b e (seen chart.new) costs.new) }
+    ensures framed { Framed S.scale.neutral kinds b e (C.seen chart.old) costs.old (C.seen chart.new) costs.new }
+    ensures grown { Grown S.scale (Open S.scale gate.now.ceiling (B.limit gate.now.bound.now) gate.now.left gate.now.right) (Pair S.scale rules.now (view S.scale.neutral kinds (C.seen chart.old) costs.old) b e (length rules.now)) (column S.scale.neutral kinds b e (C.seen chart.old) costs.old) (column S.scale.neutral kinds b e (C.seen chart.new) costs.new) }
 {
     for rule in rules {
         if let Some(from) = chart.split(rule.left as usize, rule.right as usize, b, e) {

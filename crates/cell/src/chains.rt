@@ -17,7 +17,7 @@ use table::known;
 
 // Whether the part of some rule is held over b to e.
 fn applies<C: Chart>(rules: &[ChainRule], chart: &C, b: usize, e: usize) -> bool
-    ensures { result ≡ false → (k : ℕ) (rule : Chain) → At rules.now k rule → (seen chart.now).holds b e rule.part ≡ false }
+    ensures { result ≡ false → (k : ℕ) (rule : Chain) → At rules.now k rule → (C.seen chart.now).holds b e rule.part ≡ false }
 {
     for rule in rules {
         if chart.has(b, e, rule.part as usize) {
@@ -33,7 +33,7 @@ fn better<S: Scale>(
     at: usize,
     cost: S::Cost,
 ) -> Option<(usize, S::Cost)>
-    ensures { result ≡ chosen scale best at cost }
+    ensures { result ≡ chosen S.scale best at cost }
 {
     match best {
         None => Some((at, cost)),
@@ -56,9 +56,9 @@ fn pick<S: Scale, C: Chart>(
     e: usize,
     done: &[bool],
 ) -> Option<(usize, S::Cost)>
-    requires ready { Ready kinds (seen chart.now) (length costs.now) }
+    requires ready { Ready kinds (C.seen chart.now) (length costs.now) }
     requires long { kinds ≤ length done.now }
-    ensures { Picked scale (column scale.neutral kinds b e (seen chart.now) costs.now) done.now kinds result }
+    ensures { Picked S.scale (column S.scale.neutral kinds b e (C.seen chart.now) costs.now) done.now kinds result }
 {
     let mut best: Option<(usize, S::Cost)> = None;
     for i in 0..kinds {
@@ -84,11 +84,11 @@ fn relax<S: Scale, C: Chart, B: Bound<S>>(
     part: usize,
     cost: S::Cost,
 )
-    requires placed { Placed kinds b e (seen chart.old) (length costs.old) }
+    requires placed { Placed kinds b e (C.seen chart.old) (length costs.old) }
     requires long { kinds ≤ length done.now }
     requires named { NamedChains rules.now kinds }
-    ensures framed { Framed scale.neutral kinds b e (seen chart.old) costs.old (seen chart.new) costs.new }
-    ensures grown { Grown scale (Open scale gate.now.ceiling (limit gate.now.bound.now) gate.now.left gate.now.right) (Link scale rules.now done.now part cost (length rules.now)) (column scale.neutral kinds b e (seen chart.old) costs.old) (column scale.neutral kinds b e (seen chart.new) costs.new) }
+    ensures framed { Framed S.scale.neutral kinds b e (C.seen chart.old) costs.old (C.seen chart.new) costs.new }
+    ensures grown { Grown S.scale (Open S.scale gate.now.ceiling (B.limit gate.now.bound.now) gate.now.left gate.now.right) (Link S.scale rules.now done.now part cost (length rules.now)) (column S.scale.neutral kinds b e (C.seen chart.old) costs.old) (column S.scale.neutral kinds b e (C.seen chart.new) costs.new) }
 {
     for rule in rules {
         let category = rule.category as usize;
@@ -118,12 +118,12 @@ fn settle<S: Scale, C: Chart, B: Bound<S>>(
     gate: &Gate<'_, S::Cost, B>,
     done: &mut [bool],
 )
-    requires placed { Placed kinds b e (seen chart.old) (length costs.old) }
+    requires placed { Placed kinds b e (C.seen chart.old) (length costs.old) }
     requires long { kinds ≤ length done.old }
     requires named { NamedChains rules.now kinds }
     requires fresh { (k : ℕ) → slice_index_or done.old k false ≡ false }
-    ensures framed { Framed scale.neutral kinds b e (seen chart.old) costs.old (seen chart.new) costs.new }
-    ensures settled { Settled scale (Open scale gate.now.ceiling (limit gate.now.bound.now) gate.now.left gate.now.right) rules.now (column scale.neutral kinds b e (seen chart.old) costs.old) (column scale.neutral kinds b e (seen chart.new) costs.new) }
+    ensures framed { Framed S.scale.neutral kinds b e (C.seen chart.old) costs.old (C.seen chart.new) costs.new }
+    ensures settled { Settled S.scale (Open S.scale gate.now.ceiling (B.limit gate.now.bound.now) gate.now.left gate.now.right) rules.now (column S.scale.neutral kinds b e (C.seen chart.old) costs.old) (column S.scale.neutral kinds b e (C.seen chart.new) costs.new) }
 {
     while let Some(found) = pick::<S, C>(chart, costs, kinds, b, e, done) {
         done[found.0] = true;
@@ -143,11 +143,11 @@ pub fn links<S: Scale, C: Chart, B: Bound<S>>(
     e: usize,
     gate: &Gate<'_, S::Cost, B>,
 )
-    requires placed { Placed kinds b e (seen chart.old) (length costs.old) }
+    requires placed { Placed kinds b e (C.seen chart.old) (length costs.old) }
     requires few { kinds ≤ 64 }
     requires named { NamedChains rules.now kinds }
-    ensures framed { Framed scale.neutral kinds b e (seen chart.old) costs.old (seen chart.new) costs.new }
-    ensures settled { Settled scale (Open scale gate.now.ceiling (limit gate.now.bound.now) gate.now.left gate.now.right) rules.now (column scale.neutral kinds b e (seen chart.old) costs.old) (column scale.neutral kinds b e (seen chart.new) costs.new) }
+    ensures framed { Framed S.scale.neutral kinds b e (C.seen chart.old) costs.old (C.seen chart.new) costs.new }
+    ensures settled { Settled S.scale (Open S.scale gate.now.ceiling (B.limit gate.now.bound.now) gate.now.left gate.now.right) rules.now (column S.scale.neutral kinds b e (C.seen chart.old) costs.old) (column S.scale.neutral kinds b e (C.seen chart.new) costs.new) }
 {
     if applies::<C>(rules, chart, b, e) {
         let mut done = [false; 64];

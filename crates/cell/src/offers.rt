@@ -21,10 +21,10 @@ pub fn offer<S: Scale, C: Chart, B: Bound<S>>(
     at: usize,
     cost: S::Cost,
 )
-    requires placed { Placed kinds b e (seen chart.old) (length costs.old) }
+    requires placed { Placed kinds b e (C.seen chart.old) (length costs.old) }
     requires kind { at < kinds }
-    ensures framed { Framed scale.neutral kinds b e (seen chart.old) costs.old (seen chart.new) costs.new }
-    ensures offered { Offered scale (Open scale gate.now.ceiling (limit gate.now.bound.now) gate.now.left gate.now.right) (column scale.neutral kinds b e (seen chart.old) costs.old) (column scale.neutral kinds b e (seen chart.new) costs.new) at cost }
+    ensures framed { Framed S.scale.neutral kinds b e (C.seen chart.old) costs.old (C.seen chart.new) costs.new }
+    ensures offered { Offered S.scale (Open S.scale gate.now.ceiling (B.limit gate.now.bound.now) gate.now.left gate.now.right) (column S.scale.neutral kinds b e (C.seen chart.old) costs.old) (column S.scale.neutral kinds b e (C.seen chart.new) costs.new) at cost }
 {
     let old = known::<S, C>(chart, costs, kinds, b, e, at);
     if passes::<S, B>(cost, gate.bound, at, gate.left, gate.right, gate.ceiling)

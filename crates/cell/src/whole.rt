@@ -24,11 +24,11 @@ pub fn fill<S: Scale, C: Chart, B: Bound<S>>(
     b: usize,
     e: usize,
 )
-    requires placed { Placed rules.now.categories b e (seen chart.old) (length costs.old) }
+    requires placed { Placed rules.now.categories b e (C.seen chart.old) (length costs.old) }
     requires covered { e ≤ length text.now }
-    requires blank { (A : ℕ) → view scale.neutral rules.now.categories (seen chart.old) costs.old A b e ≡ None }
-    ensures framed { Framed scale.neutral rules.now.categories b e (seen chart.old) costs.old (seen chart.new) costs.new }
-    ensures closes { Closes scale (grammar rules.now) (limit bound.now) ceiling text.now (view scale.neutral rules.now.categories (seen chart.old) costs.old) (view scale.neutral rules.now.categories (seen chart.new) costs.new) b e }
+    requires blank { (A : ℕ) → view S.scale.neutral rules.now.categories (C.seen chart.old) costs.old A b e ≡ None }
+    ensures framed { Framed S.scale.neutral rules.now.categories b e (C.seen chart.old) costs.old (C.seen chart.new) costs.new }
+    ensures closes { Closes S.scale (grammar rules.now) (B.limit bound.now) ceiling text.now (view S.scale.neutral rules.now.categories (C.seen chart.old) costs.old) (view S.scale.neutral rules.now.categories (C.seen chart.new) costs.new) b e }
 {
     let kinds = rules.categories;
     let gate = Gate {

@@ -26,10 +26,10 @@ fn leaves<S: Scale, C: Chart, B: Bound<S>>(
     e: usize,
     gate: &Gate<'_, S::Cost, B>,
 )
-    requires placed { Placed kinds b e (seen chart.old) (length costs.old) }
+    requires placed { Placed kinds b e (C.seen chart.old) (length costs.old) }
     requires named { NamedWords rules.now kinds vocabulary }
-    ensures framed { Framed scale.neutral kinds b e (seen chart.old) costs.old (seen chart.new) costs.new }
-    ensures grown { Grown scale (Open scale gate.now.ceiling (limit gate.now.bound.now) gate.now.left gate.now.right) (Leaf scale rules.now word (length rules.now)) (column scale.neutral kinds b e (seen chart.old) costs.old) (column scale.neutral kinds b e (seen chart.new) costs.new) }
+    ensures framed { Framed S.scale.neutral kinds b e (C.seen chart.old) costs.old (C.seen chart.new) costs.new }
+    ensures grown { Grown S.scale (Open S.scale gate.now.ceiling (B.limit gate.now.bound.now) gate.now.left gate.now.right) (Leaf S.scale rules.now word (length rules.now)) (column S.scale.neutral kinds b e (C.seen chart.old) costs.old) (column S.scale.neutral kinds b e (C.seen chart.new) costs.new) }
 {
     for rule in rules {
         if rule.word == word {
@@ -59,11 +59,11 @@ pub fn single<S: Scale, C: Chart, B: Bound<S>>(
     e: usize,
     gate: &Gate<'_, S::Cost, B>,
 )
-    requires placed { Placed kinds b e (seen chart.old) (length costs.old) }
+    requires placed { Placed kinds b e (C.seen chart.old) (length costs.old) }
     requires covered { e ≤ length text.now }
     requires named { NamedWords rules.now kinds vocabulary }
-    ensures framed { Framed scale.neutral kinds b e (seen chart.old) costs.old (seen chart.new) costs.new }
-    ensures grown { Grown scale (Open scale gate.now.ceiling (limit gate.now.bound.now) gate.now.left gate.now.right) (Single scale rules.now text.now b e) (column scale.neutral kinds b e (seen chart.old) costs.old) (column scale.neutral kinds b e (seen chart.new) costs.new) }
+    ensures framed { Framed S.scale.neutral kinds b e (C.seen chart.old) costs.old (C.seen chart.new) costs.new }
+    ensures grown { Grown S.scale (Open S.scale gate.now.ceiling (B.limit gate.now.bound.now) gate.now.left gate.now.right) (Single S.scale rules.now text.now b e) (column S.scale.neutral kinds b e (C.seen chart.old) costs.old) (column S.scale.neutral kinds b e (C.seen chart.new) costs.new) }
 {
     if b == e {
         leaves::<S, C, B>(

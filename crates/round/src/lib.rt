@@ -21,7 +21,7 @@ use table::clear;
 
 // How many categories are held over b to e.
 fn count<C: Chart>(chart: &C, kinds: usize, b: usize, e: usize) -> usize
-    ensures { result ≡ tally (seen chart.now).holds b e kinds }
+    ensures { result ≡ tally (C.seen chart.now).holds b e kinds }
 {
     let mut held = 0;
     for a in 0..kinds {
@@ -42,12 +42,12 @@ fn fill_ending<S: Scale, C: Chart, B: Bound<S>>(
     costs: &mut [S::Cost],
     e: usize,
 ) -> usize
-    requires fitted { Fitted (length text.now) rules.now.categories (seen chart.old) (length costs.old) }
+    requires fitted { Fitted (length text.now) rules.now.categories (C.seen chart.old) (length costs.old) }
     requires last { e ≤ length text.now }
-    requires sofar { Sofar scale (grammar rules.now) (limit bound.now) ceiling text.now (view scale.neutral rules.now.categories (seen chart.old) costs.old) e 0 }
-    ensures spread { Spread scale.neutral rules.now.categories e (seen chart.old) costs.old (seen chart.new) costs.new }
-    ensures sofar { Sofar scale (grammar rules.now) (limit bound.now) ceiling text.now (view scale.neutral rules.now.categories (seen chart.new) costs.new) e e }
-    ensures number { result ≡ ending (seen chart.new).holds rules.now.categories e e }
+    requires sofar { Sofar S.scale (grammar rules.now) (B.limit bound.now) ceiling text.now (view S.scale.neutral rules.now.categories (C.seen chart.old) costs.old) e 0 }
+    ensures spread { Spread S.scale.neutral rules.now.categories e (C.seen chart.old) costs.old (C.seen chart.new) costs.new }
+    ensures sofar { Sofar S.scale (grammar rules.now) (B.limit bound.now) ceiling text.now (view S.scale.neutral rules.now.categories (C.seen chart.new) costs.new) e e }
+    ensures number { result ≡ ending (C.seen chart.new).holds rules.now.categories e e }
 {
     let mut held = 0;
     for back in 0..e {
@@ -66,12 +66,12 @@ pub fn round<S: Scale, C: Chart, B: Bound<S>>(
     chart: &mut C,
     costs: &mut [S::Cost],
 ) -> usize
-    requires roomy { length text.now ≤ (seen chart.old).room }
+    requires roomy { length text.now ≤ (C.seen chart.old).room }
     requires long { tri (length text.now) * rules.now.categories ≤ length costs.old }
-    ensures room { (seen chart.new).room ≡ (seen chart.old).room }
-    ensures round { Round scale (grammar rules.now) (limit bound.now) ceiling text.now costs.old (seen chart.new) costs.new }
-    ensures count { result ≡ number (seen chart.new).holds rules.now.categories (length text.now) }
-    ensures number { KeptNumber scale (grammar rules.now) (limit bound.now) ceiling text.now result }
+    ensures room { (C.seen chart.new).room ≡ (C.seen chart.old).room }
+    ensures round { Round S.scale (grammar rules.now) (B.limit bound.now) ceiling text.now costs.old (C.seen chart.new) costs.new }
+    ensures count { result ≡ number (C.seen chart.new).holds rules.now.categories (length text.now) }
+    ensures number { KeptNumber S.scale (grammar rules.now) (B.limit bound.now) ceiling text.now result }
 {
     let n = text.len();
     let kinds = rules.categories;
@@ -91,12 +91,12 @@ pub fn recognise<S: Scale, C: Chart>(
     chart: &mut C,
     costs: &mut [S::Cost],
 ) -> usize
-    requires roomy { length text.now ≤ (seen chart.old).room }
+    requires roomy { length text.now ≤ (C.seen chart.old).room }
     requires long { tri (length text.now) * rules.now.categories ≤ length costs.old }
-    ensures room { (seen chart.new).room ≡ (seen chart.old).room }
-    ensures recogniser { RecogniserChart scale (grammar rules.now) text.now (seen chart.new) costs.new }
-    ensures round { Round scale (grammar rules.now) (λ _ left right. floor_entry scale left right) None text.now costs.old (seen chart.new) costs.new }
-    ensures number { KeptNumber scale (grammar rules.now) (λ _ left right. floor_entry scale left right) None text.now result }
+    ensures room { (C.seen chart.new).room ≡ (C.seen chart.old).room }
+    ensures recogniser { RecogniserChart S.scale (grammar rules.now) text.now (C.seen chart.new) costs.new }
+    ensures round { Round S.scale (grammar rules.now) (λ _ left right. floor_entry S.scale left right) None text.now costs.old (C.seen chart.new) costs.new }
+    ensures number { KeptNumber S.scale (grammar rules.now) (λ _ left right. floor_entry S.scale left right) None text.now result }
 {
     round::<S, C, Floor>(rules, text, &Floor, None, chart, costs)
 }

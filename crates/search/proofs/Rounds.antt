@@ -1,5 +1,5 @@
 -- What a round leaves is closed under the rules and reached by derivations, so that a tree can be taken out of it.
-use Rattle.std.proofs.Common.{◌≡◌, ℕ, ◌+◌, ◌-◌, ◌<◌, ◌≤◌, true, List, length, get_or, Some, None, Option, sym, refl, ap, ◌∙◌, subst, ap₂, subst₂}
+use Rattle.std.proofs.Common.{◌≡◌, ℕ, ◌+◌, ◌-◌, List, length, Some, Option, sym, ap, subst, ap₂, subst₂}
 use Rattle.derivation.specs.Grammar.{Grammar}
 use Rattle.derivation.specs.Scale.{Scale, Within}
 use Rattle.derivation.specs.Derivation.{Derivation, cost, word, chain, binary}
@@ -8,7 +8,7 @@ use Rattle.derivation.specs.Passing.{Admits, Passes}
 use Rattle.derivation.specs.Kept.{Kept}
 use Rattle.derivation.specs.Table.{Closed, Reached}
 use Rattle.chart.specs.Meaning.{Seen}
-use Rattle.table.specs.Memory.{slot, view}
+use Rattle.table.specs.Memory.{view}
 use Rattle.table.proofs.Views.{view_true, view_held}
 use Rattle.round.specs.Round.{Round}
 

@@ -31,11 +31,11 @@ pub fn best<S: Scale, C: Chart, B: Bound<S>>(
     costs: &mut [S::Cost],
     nodes: &mut [Node],
 ) -> Option<Tree<S::Cost>>
-    requires roomy { length text.now ≤ (seen chart.old).room }
+    requires roomy { length text.now ≤ (C.seen chart.old).room }
     requires long { tri (length text.now) * rules.now.categories ≤ length costs.old }
     requires wide { (2 * length text.now - 1) * rules.now.categories ≤ length nodes.old }
-    ensures room { (seen chart.new).room ≡ (seen chart.old).room }
-    ensures best { Best scale (grammar rules.now) (limit bound.now) ladder.now text.now costs.old (seen chart.new) costs.new nodes.old nodes.new result }
+    ensures room { (C.seen chart.new).room ≡ (C.seen chart.old).room }
+    ensures best { Best S.scale (grammar rules.now) (B.limit bound.now) ladder.now text.now costs.old (C.seen chart.new) costs.new nodes.old nodes.new result }
 {
     let last = climb::<S, C, B>(rules, text, bound, ladder, chart, costs)?;
     let Some(cost) = known::<S, C>(

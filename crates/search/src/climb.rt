@@ -27,10 +27,10 @@ fn attempt<S: Scale, C: Chart, B: Bound<S>>(
     chart: &mut C,
     costs: &mut [S::Cost],
 ) -> Option<usize>
-    requires roomy { length text.now ≤ (seen chart.old).room }
+    requires roomy { length text.now ≤ (C.seen chart.old).room }
     requires long { tri (length text.now) * rules.now.categories ≤ length costs.old }
-    ensures room { (seen chart.new).room ≡ (seen chart.old).room }
-    ensures tried { Tried scale (grammar rules.now) (limit bound.now) ceiling text.now costs.old (seen chart.new) costs.new result }
+    ensures room { (C.seen chart.new).room ≡ (C.seen chart.old).room }
+    ensures tried { Tried S.scale (grammar rules.now) (B.limit bound.now) ceiling text.now costs.old (C.seen chart.new) costs.new result }
 {
     let kept = round::<S, C, B>(rules, text, bound, ceiling, chart, costs);
     if chart.has(1, text.len(), rules.top as usize) {
@@ -49,10 +49,10 @@ pub fn climb<S: Scale, C: Chart, B: Bound<S>>(
     chart: &mut C,
     costs: &mut [S::Cost],
 ) -> Option<Last>
-    requires roomy { length text.now ≤ (seen chart.old).room }
+    requires roomy { length text.now ≤ (C.seen chart.old).room }
     requires long { tri (length text.now) * rules.now.categories ≤ length costs.old }
-    ensures room { (seen chart.new).room ≡ (seen chart.old).room }
-    ensures climb { Climb scale (grammar rules.now) (limit bound.now) ladder.now text.now costs.old (seen chart.new) costs.new result }
+    ensures room { (C.seen chart.new).room ≡ (C.seen chart.old).room }
+    ensures climb { Climb S.scale (grammar rules.now) (B.limit bound.now) ladder.now text.now costs.old (C.seen chart.new) costs.new result }
 {
     for (rung, ceiling) in ladder.iter().enumerate() {
         if let Some(kept) = attempt::<S, C, B>(rules, text, bound, Some(*ceiling), chart, costs) {

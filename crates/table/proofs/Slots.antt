@@ -1,5 +1,5 @@
 -- The places of costs are apart.
-use Rattle.std.proofs.Common.{◌≡◌, ℕ, ◌+◌, ◌*◌, ◌/◌, ◌%◌, ◌<◌, ◌≤◌, sym, refl, ap, ◌∙◌, arith}
+use Rattle.std.proofs.Common.{◌≡◌, ℕ, ◌*◌, ◌/◌, ◌%◌, ◌<◌, sym, ap, ◌∙◌}
 use lib.Arith.{digits_lt, digits_div, digits_mod}
 use Rattle.chart.specs.Meaning.{Inside}
 use Rattle.chart.specs.Triangle.{tri, cell}

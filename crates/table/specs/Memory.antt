@@ -1,5 +1,5 @@
 -- A chart with a row of costs beside it, as a table of costs; and what the steps of a search do to it.
-use Rattle.std.specs.Prelude.{◌≡◌, ℕ, ◌+◌, ◌*◌, ◌<◌, ◌≤◌, Bool, true, false, cond, ◌⊎◌, List, length, Some, None, Option, ◌≢◌, slice_index_or}
+use Rattle.std.specs.Prelude.{◌≡◌, ℕ, ◌+◌, ◌*◌, ◌<◌, ◌≤◌, true, cond, ◌⊎◌, List, Some, None, ◌≢◌, slice_index_or}
 use Rattle.derivation.specs.Table.{Table}
 use Rattle.chart.specs.Meaning.{Seen, Inside}
 use Rattle.chart.specs.Triangle.{tri, cell}

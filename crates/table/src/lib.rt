@@ -30,8 +30,8 @@ pub fn known<S: Scale, C: Chart>(
     e: usize,
     a: usize,
 ) -> Option<S::Cost>
-    requires { Ready kinds (seen chart.now) (length costs.now) }
-    ensures { result ≡ view scale.neutral kinds (seen chart.now) costs.now a b e }
+    requires { Ready kinds (C.seen chart.now) (length costs.now) }
+    ensures { result ≡ view S.scale.neutral kinds (C.seen chart.now) costs.now a b e }
 {
     if chart.has(b, e, a) {
         Some(costs[slot_of(kinds, b, e, a)])
@@ -50,9 +50,9 @@ pub fn store<S: Scale, C: Chart>(
     a: usize,
     cost: S::Cost,
 )
-    requires placed { Placed kinds b e (seen chart.old) (length costs.old) }
+    requires placed { Placed kinds b e (C.seen chart.old) (length costs.old) }
     requires kind { a < kinds }
-    ensures { Stored scale.neutral kinds b e a cost (seen chart.old) costs.old (seen chart.new) costs.new }
+    ensures { Stored S.scale.neutral kinds b e a cost (C.seen chart.old) costs.old (C.seen chart.new) costs.new }
 {
     chart.put(b, e, a);
     costs[slot_of(kinds, b, e, a)] = cost;
@@ -61,7 +61,7 @@ pub fn store<S: Scale, C: Chart>(
 // Makes the first costs neutral.
 pub fn clear<S: Scale>(costs: &mut [S::Cost], end: usize)
     requires { end ≤ length costs.old }
-    ensures { Cleared scale.neutral end costs.old costs.new }
+    ensures { Cleared S.scale.neutral end costs.old costs.new }
 {
     let none = S::start();
     for i in 0..end {
@@ -71,7 +71,7 @@ pub fn clear<S: Scale>(costs: &mut [S::Cost], end: usize)
 
 // Whether a cost is below what is there.
 pub fn wanted<S: Scale>(old: Option<S::Cost>, cost: S::Cost) -> bool
-    ensures { result ≡ cheaper scale old cost }
+    ensures { result ≡ cheaper S.scale old cost }
 {
     match old {
         None => true,

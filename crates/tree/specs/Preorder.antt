@@ -1,5 +1,5 @@
 -- A derivation as a list of nodes: a parent before its left part, and that before its right part.
-use Rattle.std.specs.Prelude.{◌≡◌, ℕ, ◌+◌, List, [], ◌∷◌, ◌++◌, ◌≢◌}
+use Rattle.std.specs.Prelude.{ℕ, ◌+◌, List, [], ◌∷◌, ◌++◌, ◌≢◌}
 use Rattle.derivation.specs.Grammar.{Grammar}
 use Rattle.derivation.specs.Derivation.{Derivation, word, chain, binary}
 use Rattle.tree.specs.declared.node.Node.{Node}

@@ -20,11 +20,11 @@ fn sweep<S: Scale, C: Chart>(
     b: usize,
     e: usize,
 )
-    requires ready { Ready rules.now.categories (seen chart.now) (length costs.now) }
-    requires whole { length text.now ≡ (seen chart.now).words }
+    requires ready { Ready rules.now.categories (C.seen chart.now) (length costs.now) }
+    requires whole { length text.now ≡ (C.seen chart.now).words }
     requires some { 0 < level }
-    requires ranked { Ranked scale (grammar rules.now) text.now (view scale.neutral rules.now.categories (seen chart.now) costs.now) ranks.old level b e }
-    ensures { Swept scale (grammar rules.now) text.now (view scale.neutral rules.now.categories (seen chart.now) costs.now) ranks.old ranks.new level rules.now.categories b e }
+    requires ranked { Ranked S.scale (grammar rules.now) text.now (view S.scale.neutral rules.now.categories (C.seen chart.now) costs.now) ranks.old level b e }
+    ensures { Swept S.scale (grammar rules.now) text.now (view S.scale.neutral rules.now.categories (C.seen chart.now) costs.now) ranks.old ranks.new level rules.now.categories b e }
 {
     for x in 0..rules.categories {
         if ranks[x] == 0 {
@@ -45,10 +45,10 @@ pub fn rank_cell<S: Scale, C: Chart>(
     b: usize,
     e: usize,
 ) -> [u8; 64]
-    requires ready { Ready rules.now.categories (seen chart.now) (length costs.now) }
-    requires whole { length text.now ≡ (seen chart.now).words }
-    requires grounded { Grounded scale (grammar rules.now) text.now (view scale.neutral rules.now.categories (seen chart.now) costs.now) b e a }
-    ensures ranked { Ranked scale (grammar rules.now) text.now (view scale.neutral rules.now.categories (seen chart.now) costs.now) result rules.now.categories b e }
+    requires ready { Ready rules.now.categories (C.seen chart.now) (length costs.now) }
+    requires whole { length text.now ≡ (C.seen chart.now).words }
+    requires grounded { Grounded S.scale (grammar rules.now) text.now (view S.scale.neutral rules.now.categories (C.seen chart.now) costs.now) b e a }
+    ensures ranked { Ranked S.scale (grammar rules.now) text.now (view S.scale.neutral rules.now.categories (C.seen chart.now) costs.now) result rules.now.categories b e }
     ensures some { 0 < slice_index result a }
 {
     let mut ranks = [0u8; 64];

@@ -20,7 +20,7 @@ pub enum Step {
 
 // The first word rule that gives the cost.
 fn first_word<S: Scale>(rules: &[WordRule], word: u16, a: u8, cost: S::Cost) -> Option<usize>
-    ensures { MatchOption result ((k : ℕ) → ByWord scale rules.now word a cost k → ⊥) (λ k. ByWord scale rules.now word a cost k) }
+    ensures { MatchOption result ((k : ℕ) → ByWord S.scale rules.now word a cost k → ⊥) (λ k. ByWord S.scale rules.now word a cost k) }
 {
     for (k, rule) in rules.iter().enumerate() {
         if rule.category == a && rule.word == word {
@@ -45,8 +45,8 @@ fn splits_at<S: Scale, C: Chart>(
 ) -> bool
     requires first { b ≤ m }
     requires last { m < e }
-    requires ready { Ready kinds (seen chart.now) (length costs.now) }
-    ensures { Decides result (OfParts scale (view scale.neutral kinds (seen chart.now) costs.now) b e cost rule m) }
+    requires ready { Ready kinds (C.seen chart.now) (length costs.now) }
+    ensures { Decides result (OfParts S.scale (view S.scale.neutral kinds (C.seen chart.now) costs.now) b e cost rule m) }
 {
     let Some(left) = known::<S, C>(chart, costs, kinds, b, m, rule.left as usize) else {
         return false;
@@ -68,8 +68,8 @@ fn first_pair<S: Scale, C: Chart>(
     e: usize,
     cost: S::Cost,
 ) -> Option<(usize, usize)>
-    requires { Ready kinds (seen chart.now) (length costs.now) }
-    ensures { FirstPair scale (view scale.neutral kinds (seen chart.now) costs.now) rules.now b e a cost result }
+    requires { Ready kinds (C.seen chart.now) (length costs.now) }
+    ensures { FirstPair S.scale (view S.scale.neutral kinds (C.seen chart.now) costs.now) rules.now b e a cost result }
 {
     let found = 'search: {
         for (k, rule) in rules.iter().enumerate() {
@@ -100,9 +100,9 @@ fn steps_to<S: Scale, C: Chart>(
     e: usize,
     cost: S::Cost,
 ) -> bool
-    requires ready { Ready kinds (seen chart.now) (length costs.now) }
+    requires ready { Ready kinds (C.seen chart.now) (length costs.now) }
     requires named { rule.part < length ranks.now }
-    ensures { Decides result (OfPart scale (view scale.neutral kinds (seen chart.now) costs.now) ranks.now below b e cost rule) }
+    ensures { Decides result (OfPart S.scale (view S.scale.neutral kinds (C.seen chart.now) costs.now) ranks.now below b e cost rule) }
 {
     let rank = ranks[rule.part as usize];
     if rank == 0 || below <= rank {
@@ -127,9 +127,9 @@ fn first_chain<S: Scale, C: Chart>(
     e: usize,
     cost: S::Cost,
 ) -> Option<usize>
-    requires ready { Ready kinds (seen chart.now) (length costs.now) }
+    requires ready { Ready kinds (C.seen chart.now) (length costs.now) }
     requires named { NamedChains rules.now (length ranks.now) }
-    ensures { MatchOption result ((k : ℕ) → ByChain scale (view scale.neutral kinds (seen chart.now) costs.now) rules.now ranks.now below b e a cost k → ⊥) (λ k. ByChain scale (view scale.neutral kinds (seen chart.now) costs.now) rules.now ranks.now below b e a cost k) }
+    ensures { MatchOption result ((k : ℕ) → ByChain S.scale (view S.scale.neutral kinds (C.seen chart.now) costs.now) rules.now ranks.now below b e a cost k → ⊥) (λ k. ByChain S.scale (view S.scale.neutral kinds (C.seen chart.now) costs.now) rules.now ranks.now below b e a cost k) }
 {
     for (k, rule) in rules.iter().enumerate() {
         if rule.category == a {
@@ -153,10 +153,10 @@ pub fn way<S: Scale, C: Chart>(
     b: usize,
     e: usize,
 ) -> Option<Step>
-    requires ready { Ready rules.now.categories (seen chart.now) (length costs.now) }
-    requires whole { length text.now ≡ (seen chart.now).words }
+    requires ready { Ready rules.now.categories (C.seen chart.now) (length costs.now) }
+    requires whole { length text.now ≡ (C.seen chart.now).words }
     requires long { length ranks.now ≡ 64 }
-    ensures { MatchOption result ((t : Step) → Way scale (grammar rules.now) text.now (view scale.neutral rules.now.categories (seen chart.now) costs.now) ranks.now below b e a t → ⊥) (λ t. Way scale (grammar rules.now) text.now (view scale.neutral rules.now.categories (seen chart.now) costs.now) ranks.now below b e a t) }
+    ensures { MatchOption result ((t : Step) → Way S.scale (grammar rules.now) text.now (view S.scale.neutral rules.now.categories (C.seen chart.now) costs.now) ranks.now below b e a t → ⊥) (λ t. Way S.scale (grammar rules.now) text.now (view S.scale.neutral rules.now.categories (C.seen chart.now) costs.now) ranks.now below b e a t) }
 {
     let kinds = rules.categories;
     let cost = known::<S, C>(chart, costs, kinds, b, e, a as usize)?;

@@ -42,13 +42,13 @@ fn write<S: Scale, C: Chart>(
     nodes: &mut [Node],
     at: usize,
 ) -> usize
-    requires ready { Ready rules.now.categories (seen chart.now) (length costs.now) }
-    requires whole { length text.now ≡ (seen chart.now).words }
-    requires grounded { AllGrounded scale (grammar rules.now) text.now (view scale.neutral rules.now.categories (seen chart.now) costs.now) }
-    requires ranked { Ranked scale (grammar rules.now) text.now (view scale.neutral rules.now.categories (seen chart.now) costs.now) ranks.now rules.now.categories b e }
+    requires ready { Ready rules.now.categories (C.seen chart.now) (length costs.now) }
+    requires whole { length text.now ≡ (C.seen chart.now).words }
+    requires grounded { AllGrounded S.scale (grammar rules.now) text.now (view S.scale.neutral rules.now.categories (C.seen chart.now) costs.now) }
+    requires ranked { Ranked S.scale (grammar rules.now) text.now (view S.scale.neutral rules.now.categories (C.seen chart.now) costs.now) ranks.now rules.now.categories b e }
     requires some { 0 < slice_index ranks.now a }
     requires room { at + (2 * ((e - b) * rules.now.categories) + slice_index ranks.now a) ≤ length nodes.old }
-    ensures { Wrote scale (grammar rules.now) text.now (view scale.neutral rules.now.categories (seen chart.now) costs.now) ranks.now a b e at result nodes.old nodes.new }
+    ensures { Wrote S.scale (grammar rules.now) text.now (view S.scale.neutral rules.now.categories (C.seen chart.now) costs.now) ranks.now a b e at result nodes.old nodes.new }
 {
     let rank = ranks[a as usize];
     let Some(step) = way::<S, C>(rules, text, chart, costs, ranks, rank, a, b, e) else {
@@ -97,12 +97,12 @@ pub fn extract<S: Scale, C: Chart>(
     costs: &[S::Cost],
     nodes: &mut [Node],
 ) -> usize
-    requires ready { Ready rules.now.categories (seen chart.now) (length costs.now) }
-    requires whole { length text.now ≡ (seen chart.now).words }
-    requires finished { Finished scale (grammar rules.now) text.now (view scale.neutral rules.now.categories (seen chart.now) costs.now) }
-    requires held { (seen chart.now).holds 1 (length text.now) rules.now.top ≡ true }
+    requires ready { Ready rules.now.categories (C.seen chart.now) (length costs.now) }
+    requires whole { length text.now ≡ (C.seen chart.now).words }
+    requires finished { Finished S.scale (grammar rules.now) text.now (view S.scale.neutral rules.now.categories (C.seen chart.now) costs.now) }
+    requires held { (C.seen chart.now).holds 1 (length text.now) rules.now.top ≡ true }
     requires room { (2 * length text.now - 1) * rules.now.categories ≤ length nodes.old }
-    ensures { Extracted scale (grammar rules.now) text.now (view scale.neutral rules.now.categories (seen chart.now) costs.now) result nodes.old nodes.new }
+    ensures { Extracted S.scale (grammar rules.now) text.now (view S.scale.neutral rules.now.categories (C.seen chart.now) costs.now) result nodes.old nodes.new }
 {
     let n = text.len();
     let ranks = rank_cell::<S, C>(rules, text, chart, costs, rules.top, 1, n);

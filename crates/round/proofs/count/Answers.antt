@@ -3,8 +3,8 @@ use Rattle.round.proofs.Counts.{tally_most, tally_more}
 use Rattle.round.proofs.count.Goals as goal
 use Rattle.round.proofs.count.Goals.{then-has, else-has}
 
-pub overflow-add-held : goal.overflow-add-held
-overflow-add-held g c =
+pub overflow_add-held : goal.overflow_add-held
+overflow_add-held g c =
     let most = tally_most (g.C.Chart.seen c.args.chart.now).holds c.args.b c.args.e c.loop-a.a in
     let inv = c.loop-a.invariant in
     omega arith

@@ -10,8 +10,8 @@ use Rattle.round.proofs.Ends.{spread_cell}
 use Rattle.round.proofs.Spans.{sofar_step}
 use Rattle.round.proofs.fill_ending.Goals as goal
 
-pub overflow-add-held : goal.overflow-add-held
-overflow-add-held g c =
+pub overflow_add-held : goal.overflow_add-held
+overflow_add-held g c =
     let m = g.C.Chart in
     let kinds = c.args.rules.now.categories in
     let e = c.args.e in

@@ -22,8 +22,8 @@ loop-e-init g c =
     let started = c.start.ensures.started yes in
     (alike_none _, moved_none _ _ _ _ _, sofar_none (view s.neutral kinds chart c.clear.new.costs) (λ A x y. view_false s.neutral kinds chart c.clear.new.costs A x y (started.2 x y A)), refl)
 
-pub overflow-add-held : goal.overflow-add-held
-overflow-add-held g c =
+pub overflow_add-held : goal.overflow_add-held
+overflow_add-held g c =
     let m = g.C.Chart in
     let kinds = c.args.rules.now.categories in
     let e = c.loop-e.e in
@@ -33,9 +33,9 @@ overflow-add-held g c =
     let less = c.loop-e-test.true in
     let one = c.loop-e.auto.e in
     let so_far = number_most (m.seen c.loop-e.chart).holds kinds (e - 1) few (omega arith) in
-    let here = ending_most (m.seen c.fill-ending-held.new.chart).holds kinds e e few in
+    let here = ending_most (m.seen c.fill_ending-held.new.chart).holds kinds e e few in
     let inv = c.loop-e.invariant.3 in
-    let is = c.fill-ending-held.ensures.number in
+    let is = c.fill_ending-held.ensures.number in
     omega arith
 
 pub loop-e-preserved : goal.loop-e-preserved
@@ -48,17 +48,17 @@ loop-e-preserved g c =
     let one = c.loop-e.auto.e in
     let start = m.seen c.start.new.self in
     let old = m.seen c.loop-e.chart in
-    let new = m.seen c.fill-ending-held.new.chart in
+    let new = m.seen c.fill_ending-held.new.chart in
     let inv = c.loop-e.invariant in
-    let did = c.fill-ending-held.ensures in
+    let did = c.fill_ending-held.ensures in
     let spread = did.spread in
-    let v' : Table g.row.S-Cost.Denot = view d kinds new c.fill-ending-held.new.costs in
+    let v' : Table g.row.S-Cost.Denot = view d kinds new c.fill_ending-held.new.costs in
     let at : (e - 1) + 1 ≡ e = omega arith in
     let next : e ≡ e + 1 - 1 = omega arith in
     let kept = number_same old.holds new.holds kinds (e - 1) (λ x y A l. spread.earlier x y A (omega arith)) in
     let more : number new.holds kinds e ≡ number new.holds kinds (e - 1) + ending new.holds kinds e e = subst (λ (k : ℕ). number new.holds kinds k ≡ number new.holds kinds (e - 1) + ending new.holds kinds k k) at (number_more new.holds kinds (e - 1)) in (
       alike_then inv.0 spread.alike,
-      moved_then d kinds start.words inv.1 (subst (λ (n : ℕ). Moved d n kinds old c.loop-e.costs new c.fill-ending-held.new.costs) inv.0.words spread.moved),
+      moved_then d kinds start.words inv.1 (subst (λ (n : ℕ). Moved d n kinds old c.loop-e.costs new c.fill_ending-held.new.costs) inv.0.words spread.moved),
       sofar_column v' e did.sofar,
       ap₂ (λ (x y : ℕ). x + y) (inv.3 ∙ sym kept) did.number ∙ sym more ∙ ap (λ (k : ℕ). number new.holds kinds k) next,
     )
@@ -83,7 +83,7 @@ returns g c =
     let kinds-is : chart.categories ≡ kinds = inv.0.categories ∙ started.1 in
     let bounded : (x y A : ℕ) → chart.holds x y A ≡ true → Inside n kinds x y A = λ x y A t. subst (λ (k : ℕ). Inside n k x y A) kinds-is (subst (λ (k : ℕ). Inside k chart.categories x y A) words-is (m.sound.bounded c.loop-e.chart x y A t)) in
     let v : Table g.row.S-Cost.Denot = view d kinds chart c.loop-e.costs in
-    let cleared = subst (λ (k : ℕ). Cleared d (k * kinds) c.args.costs.now c.clear.new.costs) c.cells-of.ensures.sum c.clear.ensures in
+    let cleared = subst (λ (k : ℕ). Cleared d (k * kinds) c.args.costs.now c.clear.new.costs) c.cells_of.ensures.sum c.clear.ensures in
     let moved = subst (λ (k : ℕ). Moved d k kinds start c.clear.new.costs chart c.loop-e.costs) started.0 inv.1 in
     let at : e - 1 ≡ n = omega arith in
     let rules = grammar c.args.rules.now in

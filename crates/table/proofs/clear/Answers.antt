@@ -1,6 +1,6 @@
-use Rattle.std.proofs.Common.{◌≡◌, ◌+◌, ◌<◌, length, set, sym, subst, arith}
+use Rattle.std.proofs.Common.{◌+◌, ◌<◌, length, set, sym, subst, arith}
 use Rattle.table.specs.Memory.{Cleared}
-use Rattle.table.proofs.Views.{cleared_none, cleared_more}
+use Rattle.table.proofs.Views.{cleared_more}
 use Rattle.table.proofs.clear.Goals as goal
 
 pub loop-i-preserved : goal.loop-i-preserved

@@ -6,8 +6,8 @@ use Rattle.table.proofs.Slots.{slot_below}
 use Rattle.table.proofs.Views.{stored, held_inside}
 use Rattle.table.proofs.store.Goals as goal
 
-pub slot-of-requires : goal.slot-of-requires
-slot-of-requires g c =
+pub slot_of-requires : goal.slot_of-requires
+slot_of-requires g c =
     let m = g.C.Chart in
     let chart = c.args.chart.now in
     let placed = c.requires.placed in
@@ -18,16 +18,16 @@ slot-of-requires g c =
     let last = placed.last in
     record { first = placed.first; order = placed.order; last = omega arith; kind = c.requires.kind; few = omega arith }
 
-inside_of : (g : _) (c : goal.After-slot-of g) → Inside (g.C.Chart.seen c.args.chart.now).words c.args.kinds c.args.b c.args.e c.args.a
+inside_of : (g : _) (c : goal.After-slot_of g) → Inside (g.C.Chart.seen c.args.chart.now).words c.args.kinds c.args.b c.args.e c.args.a
 inside_of g c = let p = c.requires.placed in record { first = p.first; order = p.order; last = p.last; kind = c.requires.kind }
 
-pub offset-bounds-costs-slot-of : goal.offset-bounds-costs-slot-of
-offset-bounds-costs-slot-of g c =
-    let below : c.slot-of.result < length c.args.costs.now = omega (arith, slot_below _ _ _ _ _ (inside_of g c), c.slot-of.ensures, c.requires.placed.ready.fits) in
+pub offset_bounds-costs-slot_of : goal.offset_bounds-costs-slot_of
+offset_bounds-costs-slot_of g c =
+    let below : c.slot_of.result < length c.args.costs.now = omega (arith, slot_below _ _ _ _ _ (inside_of g c), c.slot_of.ensures, c.requires.placed.ready.fits) in
     search rules
 
-pub bounds-costs-slot-of : goal.bounds-costs-slot-of
-bounds-costs-slot-of g c = omega (arith, slot_below _ _ _ _ _ (inside_of g c), c.slot-of.ensures, c.requires.placed.ready.fits)
+pub bounds-costs-slot_of : goal.bounds-costs-slot_of
+bounds-costs-slot_of g c = omega (arith, slot_below _ _ _ _ _ (inside_of g c), c.slot_of.ensures, c.requires.placed.ready.fits)
 
 pub returns : goal.returns
 returns g c =
@@ -48,5 +48,5 @@ returns g c =
     let adds : Adds chart.holds after.holds true b e a = subst (λ (t : Bool). Adds chart.holds after.holds t b e a) yes did.adds in
     let bounded = λ (x y z : ℕ) (t : chart.holds x y z ≡ true). held_inside ready (m.sound.bounded c.args.chart.now x y z t) in
     let fits : slot kinds b e a < length costs = omega (arith, slot_below _ _ _ _ _ here, ready.fits) in
-    subst (λ (i : ℕ). Stored d kinds b e a c.args.cost chart costs after (set costs i c.args.cost)) (sym c.slot-of.ensures)
+    subst (λ (i : ℕ). Stored d kinds b e a c.args.cost chart costs after (set costs i c.args.cost)) (sym c.slot_of.ensures)
     (stored d kinds chart after costs bounded b e a c.args.cost here fits (record { room = did.room; words = did.words; categories = did.categories }) adds)

@@ -1,14 +1,14 @@
-use Rattle.std.proofs.Common.{◌≡◌, ℕ, ◌+◌, ◌<◌, ◌≤◌, List, Some, None, Option, sym, ap, ◌∙◌, subst, inl, inr, ⊎_elim, arith}
+use Rattle.std.proofs.Common.{◌≡◌, ℕ, ◌+◌, ◌≤◌, Some, sym, ap, ◌∙◌, subst, inl, inr, ⊎_elim, arith}
 use Rattle.derivation.specs.Table.{Table}
 use Rattle.bound.specs.Gate.{Open}
 use Rattle.table.specs.Column.{Grown}
 use Rattle.table.specs.Memory.{view, column}
 use Rattle.table.proofs.Growing.{none_some, some_same, grown_none, grown_same, grown_offer}
-use Rattle.table.proofs.Views.{framed_none, framed_then, placed_then}
+use Rattle.table.proofs.Views.{framed_none, framed_then}
 use Rattle.cell.specs.Cell.{joined, Meet}
 use Rattle.cell.proofs.Meets.{meet_up, meet_here, meet_cases, meet_splits}
 use Rattle.cell.proofs.binaries.meets.Goals as goal
-use Rattle.cell.proofs.binaries.meets.Goals.{in-Some, in-default}
+use Rattle.cell.proofs.binaries.meets.Goals.{in-Some, in_default}
 
 pub loop-m-init : goal.loop-m-init
 loop-m-init g c =
@@ -45,11 +45,11 @@ loop-m-preserved g c =
             grown_offer lawful inv.1 did.offered (meet_up m) (meet_here m w.in-Some.cost here is)
                 (λ A x h. ⊎_elim inl (λ (q : (A ≡ r.category) × (joined s r.weight (old r.left b m) (old r.right (m + 1) e) ≡ Some x)). inr (q.0, some_same q.1 is)) (meet_cases m A x h)),
           )
-      | in-default w ↦
+      | in_default w ↦
           simp (w.chart-is, w.costs-is) (
             inv.0,
             grown_same lawful inv.1 (meet_up m)
-                (λ A x h. ⊎_elim (λ k. k) (λ (q : (A ≡ r.category) × (joined s r.weight (old r.left b m) (old r.right (m + 1) e) ≡ Some x)). absurd (none_some (reads ∙ sym w.in-default.ensures) q.1)) (meet_cases m A x h)),
+                (λ A x h. ⊎_elim (λ k. k) (λ (q : (A ≡ r.category) × (joined s r.weight (old r.left b m) (old r.right (m + 1) e) ≡ Some x)). absurd (none_some (reads ∙ sym w.in_default.ensures) q.1)) (meet_cases m A x h)),
           )
     ]
 

@@ -1,13 +1,13 @@
-use Rattle.std.proofs.Common.{◌≡◌, ℕ, ◌<◌, ◌≤◌, ◌⊎◌, length, get_or, sym, inl, inr, ⊎_elim, arith}
+use Rattle.std.proofs.Common.{◌≤◌, get_or, sym, ⊎_elim, arith}
 use Rattle.derivation.specs.declared.rules.BinaryRule.{BinaryRule}
 use Rattle.derivation.specs.Table.{Table}
 use Rattle.table.specs.Memory.{view}
-use Rattle.table.proofs.Growing.{at_read, grown_same, grown_then}
-use Rattle.table.proofs.Views.{framed_then, placed_then}
-use Rattle.cell.specs.Cell.{Meet, Pair}
+use Rattle.table.proofs.Growing.{grown_same, grown_then}
+use Rattle.table.proofs.Views.{framed_then}
+use Rattle.cell.specs.Cell.{Meet}
 use Rattle.cell.proofs.Meets.{meet_splits, meet_moved, pair_up, pair_here, pair_cases}
 use Rattle.cell.proofs.binaries.pairs.Goals as goal
-use Rattle.cell.proofs.binaries.pairs.Goals.{in-Some, in-default}
+use Rattle.cell.proofs.binaries.pairs.Goals.{in-Some, in_default}
 
 pub loop-rule-preserved : goal.loop-rule-preserved
 loop-rule-preserved g c =
@@ -36,9 +36,9 @@ loop-rule-preserved g c =
             framed_then d kinds inv.0 did.framed,
             grown_then lawful inv.1 (grown_same lawful did.grown forth back) (pair_up j) (pair_here j none less) (pair_cases j none),
           )
-      | in-default w ↦
+      | in_default w ↦
           simp (w.chart-is, w.costs-is) (
             inv.0,
-            grown_same lawful inv.1 (pair_up j) (λ A x h. ⊎_elim (λ k. k) (λ (q : Meet s r old b e e A x). let t = back A x q in absurd (w.in-default.ensures t.middle (meet_splits d kinds (seen c.loop-rule.chart) c.loop-rule.costs last t))) (pair_cases j none A x h)),
+            grown_same lawful inv.1 (pair_up j) (λ A x h. ⊎_elim (λ k. k) (λ (q : Meet s r old b e e A x). let t = back A x q in absurd (w.in_default.ensures t.middle (meet_splits d kinds (seen c.loop-rule.chart) c.loop-rule.costs last t))) (pair_cases j none A x h)),
           )
     ]

@@ -1,4 +1,4 @@
-use Rattle.std.proofs.Common.{◌≡◌, ℕ, false, get_or, sym, subst, arith}
+use Rattle.std.proofs.Common.{◌≡◌, ℕ, false, sym, subst, arith}
 use native.Mathlib.Decide.{ℕ_discrete}
 use Rattle.derivation.specs.declared.rules.ChainRule.{ChainRule}
 use Rattle.derivation.specs.Named.{At}

@@ -1,4 +1,4 @@
-use Rattle.std.proofs.Common.{◌≡◌, ℕ, zero, suc, false, get_or, replicate, sym, refl, ◌∙◌, subst, arith}
+use Rattle.std.proofs.Common.{◌≡◌, ℕ, zero, suc, false, get_or, replicate, sym, refl, subst}
 use Rattle.derivation.specs.Scale.{Within}
 use Rattle.derivation.specs.Bounds.{Filled}
 use Rattle.derivation.proofs.Laws.{within_refl}

@@ -2,8 +2,8 @@ use Rattle.std.proofs.Common.{◌≡◌, ℕ, ◌<◌, List, length, Some, ◌�
 use Rattle.chart.specs.Meaning.{Seen}
 use Rattle.bound.specs.Gate.{Open}
 use Rattle.table.specs.Memory.{column}
-use Rattle.table.proofs.Views.{framed_none, framed_then, placed_then, ready_alike, view_held}
-use Rattle.cell.proofs.Settling.{going_none, going_more, going_all, left_falls}
+use Rattle.table.proofs.Views.{framed_none, framed_then, view_held}
+use Rattle.cell.proofs.Settling.{going_none, going_more, left_falls}
 use Rattle.cell.proofs.chains.settle.Goals as goal
 
 pub loop-found-init : goal.loop-found-init

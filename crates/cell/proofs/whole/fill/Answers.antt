@@ -1,4 +1,4 @@
-use Rattle.std.proofs.Common.{◌≡◌, ℕ, ◌-◌, List, length, ◌∙◌, subst, arith}
+use Rattle.std.proofs.Common.{ℕ, ◌-◌, List, length, subst, arith}
 use Rattle.derivation.specs.declared.rules.WordRule.{WordRule}
 use Rattle.derivation.specs.declared.rules.ChainRule.{ChainRule}
 use Rattle.derivation.specs.declared.rules.BinaryRule.{BinaryRule}
@@ -31,9 +31,9 @@ returns g c =
     let v' : Table g.row.S-Cost.Denot = view s.neutral kinds (seen c.links.new.chart) c.links.new.costs in
     let framed₁ = c.single.ensures.framed in
     let framed = framed_then s.neutral kinds (framed_then s.neutral kinds framed₁ c.pairs.ensures.framed) c.links.ensures.framed in
-    let one = subst (λ (rs : List WordRule). Grown s ok (Single s rs text b e) (λ A. v A b e) (λ A. v₁ A b e)) c.as-slice.ensures.value c.single.ensures.grown in
-    let two = subst (λ (rs : List BinaryRule). Grown s ok (Pair s rs v₁ b e (length rs)) (λ A. v₁ A b e) (λ A. v₂ A b e)) c.as-slice-2.ensures.value c.pairs.ensures.grown in
-    let three = subst (λ (rs : List ChainRule). Settled s ok rs (λ A. v₂ A b e) (λ A. v' A b e)) c.as-slice-3.ensures.value c.links.ensures.settled in
+    let one = subst (λ (rs : List WordRule). Grown s ok (Single s rs text b e) (λ A. v A b e) (λ A. v₁ A b e)) c.as_slice.ensures.value c.single.ensures.grown in
+    let two = subst (λ (rs : List BinaryRule). Grown s ok (Pair s rs v₁ b e (length rs)) (λ A. v₁ A b e) (λ A. v₂ A b e)) c.as_slice-2.ensures.value c.pairs.ensures.grown in
+    let three = subst (λ (rs : List ChainRule). Settled s ok rs (λ A. v₂ A b e) (λ A. v' A b e)) c.as_slice-3.ensures.value c.links.ensures.settled in
     record {
       framed = framed;
       closes = closes_all g.met.S.Scale.lawful (grammar c.args.rules.now) (g.B.Bound.limit c.args.bound.now) c.args.ceiling text v v₁ v₂ v' b e c.requires.blank one two three framed₁.elsewhere framed.elsewhere first (omega arith);

@@ -1,6 +1,5 @@
-use Rattle.std.proofs.Common.{◌≡◌, ℕ, ◌*◌, ◌≤◌, true, length, sym, ap, ◌∙◌, subst}
+use Rattle.std.proofs.Common.{ℕ, ◌*◌, ◌≤◌, length, sym, ◌∙◌, subst}
 use Rattle.chart.specs.Triangle.{tri}
-use Rattle.table.specs.Memory.{Ready}
 use Rattle.table.proofs.Growing.{none_some}
 use Rattle.table.proofs.Views.{view_true}
 use Rattle.search.proofs.Rounds.{closed, reached}
@@ -8,12 +7,12 @@ use Rattle.search.proofs.best.best.Goals as goal
 
 pub unreachable-requires : goal.unreachable-requires
 unreachable-requires g c =
-    let held = c.in-ok-last.ensures.climb.keeps.held in
-    none_some (sym c.known.ensures ∙ c.in-default.is) (view_true g.S.Scale.scale.neutral c.args.rules.now.categories (g.C.Chart.seen c.climb.new.chart) c.climb.new.costs c.args.rules.now.top 1 (length c.args.text.now) held)
+    let held = c.in_ok-last.ensures.climb.keeps.held in
+    none_some (sym c.known.ensures ∙ c.in_default.is) (view_true g.S.Scale.scale.neutral c.args.rules.now.categories (g.C.Chart.seen c.climb.new.chart) c.climb.new.costs c.args.rules.now.top 1 (length c.args.text.now) held)
 
 pub extract-nodes-requires : goal.extract-nodes-requires
 extract-nodes-requires g c =
-    let topped = c.in-ok-last.ensures.climb in
+    let topped = c.in_ok-last.ensures.climb in
     let round = topped.keeps.round in
     let text = c.args.text.now in
     let kinds = c.args.rules.now.categories in

@@ -1,8 +1,8 @@
-use Rattle.std.proofs.Common.{◌≡◌, ℕ, ◌<◌, length, Some, None, Option, sym, ap, ◌∙◌, subst, arith}
+use Rattle.std.proofs.Common.{◌≡◌, ◌<◌, length, Some, Option, sym, ap, ◌∙◌, subst, arith}
 use Rattle.derivation.specs.Grammar.{grammar}
 use Rattle.derivation.specs.Ladder.{ceiling_at, Fails}
 use Rattle.search.specs.Climb.{Keeps}
-use Rattle.search.proofs.Climbs.{ceiling_inside, ceiling_past, keeps_before, lacks_before, lacks_fails, failed_more}
+use Rattle.search.proofs.Climbs.{ceiling_inside, ceiling_past, keeps_before, lacks_fails, failed_more}
 use Rattle.search.proofs.climb.climb.Goals as goal
 
 pub returns-in-Some : goal.returns-in-Some
@@ -29,7 +29,7 @@ loop-rung-preserved g c =
     let rung = c.loop-rung.rung in
     let less : rung < length ladder = c.loop-rung-test.true in
     let is : ceiling_at ladder rung ≡ Some c.index-ladder-rung.result = ceiling_inside ladder rung _ less ∙ ap Some (sym c.index-ladder-rung.is) in
-    let did = c.in-default.ensures in
+    let did = c.in_default.ensures in
     let inv = c.loop-rung.invariant in (
       did.room ∙ inv.0,
       λ k past. did.tried.round.rest k past ∙ inv.1 k past,

@@ -4,7 +4,7 @@ use Rattle.table.specs.Memory.{view}
 use Rattle.tree.specs.Ranks.{Swept}
 use Rattle.tree.proofs.Ranking.{swept_skip, swept_mark}
 use Rattle.tree.proofs.ranks.sweep.Goals as goal
-use Rattle.tree.proofs.ranks.sweep.Goals.{then-ranks-x-eq0+in-Some, then-ranks-x-eq0+in-default, else-ranks-x-eq0}
+use Rattle.tree.proofs.ranks.sweep.Goals.{then-ranks-x-eq0+in-Some, then-ranks-x-eq0+in_default, else-ranks-x-eq0}
 
 pub loop-x-preserved : goal.loop-x-preserved
 loop-x-preserved g c =
@@ -15,6 +15,6 @@ loop-x-preserved g c =
     let small : x < 64 = omega arith in
     elim c.if-ranks-x-eq0.branch [
       | then-ranks-x-eq0+in-Some w ↦ subst now-is (sym w.ranks-is) (swept_mark c.args.ranks.now c.loop-x.ranks level x c.requires.some small c.loop-x.invariant (record { fresh = w.if-ranks-x-eq0.true; step = w.in-Some.field-0; way = w.in-Some.ensures }))
-      | then-ranks-x-eq0+in-default w ↦ subst now-is (sym w.ranks-is) (swept_skip c.args.ranks.now c.loop-x.ranks level x c.loop-x.invariant (λ z. w.in-default.ensures))
+      | then-ranks-x-eq0+in_default w ↦ subst now-is (sym w.ranks-is) (swept_skip c.args.ranks.now c.loop-x.ranks level x c.loop-x.invariant (λ z. w.in_default.ensures))
       | else-ranks-x-eq0 w ↦ subst now-is (sym w.ranks-is) (swept_skip c.args.ranks.now c.loop-x.ranks level x c.loop-x.invariant (λ z t way. w.if-ranks-x-eq0.false z))
     ]
