@@ -8,7 +8,7 @@ use Rattle.refusals.specs.declared.Refusal.TheVariants.{GrammarFull}
 use Rattle.lines.specs.declared.fault.Stop.{Stop}
 use Rattle.grammar.specs.declared.draft.Draft.{Draft}
 use Rattle.grammar.specs.Places.{number_of}
-use Rattle.grammar.specs.Seen.{Seen, Fit, rules, top_named}
+use Rattle.grammar.specs.Seen.{Seen, Fit, top_named}
 use Rattle.grammar.specs.Drafts.{seen}
 use Rattle.grammar.specs.Adding.{entering, with_categories, with_words}
 use Rattle.grammar.specs.Answers.{Gives}

@@ -38,7 +38,7 @@ impl Symbols for BinaryRule {
 
 // Whether a rule with the symbols of `rule` is held.
 pub fn holds<R: Symbols>(rules: &[R], rule: R) -> bool
-    ensures { result ≡ some (same rule) rules.now }
+    ensures { result ≡ some (R.same rule) rules.now }
 {
     for other in rules {
         if rule.alike(*other) {

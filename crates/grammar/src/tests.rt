@@ -125,9 +125,9 @@ fn a_closed_grammar_is_asked(rt: HostRuntime) -> Result<(), Fail> {
     assert_eq!(rt; grammar.word(b"flies"), Some(1));
     assert_eq!(rt; grammar.word(b"fly"), None);
     assert!(rt;
-        grammar.word_name(0) == b"time"
+        grammar.word_name(0) == b"time".as_slice()
             && grammar.word_name(2).is_empty()
-            && grammar.category_name(1) == b"V"
+            && grammar.category_name(1) == b"V".as_slice()
     );
     match grammar.reopen() {
         Ok(mut draft) => {

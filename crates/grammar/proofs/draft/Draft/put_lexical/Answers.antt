@@ -3,10 +3,10 @@ use Rattle.grammar.specs.Listed.{listed}
 use Rattle.grammar.proofs.Fits.{fit, pushed}
 use Rattle.grammar.proofs.draft.Draft.put_lexical.Goals as goal
 
-pub invariant-of-self : goal.invariant-of-self
-invariant-of-self c =
+pub invariant_of-self : goal.invariant_of-self
+invariant_of-self c =
     let d = c.args.self.now in
     let f = fit d in
     let p = pushed (λ r. (r.category < length (listed d.categories)) × (r.word < length (listed d.words))) (vec_items d.lexical) (vec_items c.push.new.self) c.args.rule (is_ok c.push.result) c.push.ensures.items f.lexical (c.requires.category, c.requires.word) in
     let long = p.long in
-    (f.most, (f.few, (f.known, (omega (arith, c.requires.room), (f.top, (p.each, (f.chains, (f.binaries, tt))))))))
+    record { most = f.most; few = f.few; known = f.known; count = omega (arith, c.requires.room); topped = f.top; worded = p.each; chained = f.chains; paired = f.binaries }

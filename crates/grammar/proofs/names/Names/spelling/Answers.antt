@@ -9,14 +9,14 @@ place c = inside c.args.self.now c.args.k c.index.result.now (omega arith) c.ind
 pub returns-then-k-len : goal.returns-then-k-len
 returns-then-k-len c = sym (past c.args.self.now c.args.k (omega arith))
 
-pub slice-bounds-result-count : goal.slice-bounds-result-count
-slice-bounds-result-count c = let i = place c in search rules
+pub slice_bounds-result-count : goal.slice_bounds-result-count
+slice_bounds-result-count c = let i = place c in search rules
 
-pub slice-bounds-result-start : goal.slice-bounds-result-start
-slice-bounds-result-start c = let i = place c in search rules
+pub slice_bounds-result-start : goal.slice_bounds-result-start
+slice_bounds-result-start c = let i = place c in search rules
 
-pub slice-bounds-result-end-2 : goal.slice-bounds-result-end-2
-slice-bounds-result-end-2 c = let i = place c in search rules
+pub slice_bounds-result-end-2 : goal.slice_bounds-result-end-2
+slice_bounds-result-end-2 c = let i = place c in search rules
 
 pub returns : goal.returns
 returns c =
