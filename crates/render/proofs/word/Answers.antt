@@ -4,6 +4,6 @@ use Rattle.render.proofs.word.Goals as goal
 
 pub returns : goal.returns
 returns g c =
-    let one = pushed c.word.result.now refl c.in-ok-extend-from-slice.was c.extend-from-slice.ensures.items in
-    let all = pushed (codes ")") one c.in-ok-extend-from-slice-2.was c.extend-from-slice-2.ensures.items in
+    let one = pushed c.word.result.now refl c.in_ok-extend_from_slice.was c.extend_from_slice.ensures.items in
+    let all = pushed (codes ")") one c.in_ok-extend_from_slice-2.was c.extend_from_slice-2.ensures.items in
     all ∙ append_assoc (vec_items c.args.out.now) c.word.result.now (codes ")") ∙ ap (λ t. vec_items c.args.out.now ++ (t ++ codes ")")) c.word.ensures

@@ -45,7 +45,7 @@ best-requires g c =
     let t = state c.args.self.now in
     let chart = g.C.Chart.seen c.args.chart.now in
     let z : Sizes = record { room = c.capacity.result; span = c.span.result; costs = length c.args.costs.now; nodes = length c.args.nodes.now } in
-    let fit = fits_in s o t ladder z (sym c.declines.ensures ∙ c.in-default.is) in
+    let fit = fits_in s o t ladder z (sym c.declines.ensures ∙ c.in_default.is) in
     let P : List ℕ → ℕ → Type 0 = λ ws k. (length ws ≤ chart.room) × (tri (length ws) * k ≤ length c.args.costs.now) × ((2 * length ws - 1) * k ≤ length c.args.nodes.now) in
     let here : P t.held o.grammar.categories = (subst (λ (r : ℕ). length t.held ≤ r) c.capacity.ensures fit.0, rw (tri_closed (length t.held)) fit.1, fit.2) in
     let all = subst₂ P (sym c.words.ensures) (ap (λ (r : Rules). r.categories) (sym c.rules.ensures)) here in
@@ -61,12 +61,12 @@ returns-in-Some-best g c =
     let chart = g.C.Chart.seen c.args.chart.now in
     let tree = c.in-Some-best.tree in
     let before : Memory g.row.S-Cost.Denot = record { session = t; chart = chart; costs = c.args.costs.now; nodes = c.args.nodes.now } in
-    let after : Memory g.row.S-Cost.Denot = record { session = record { held = t.held; tally = c.saturating-add-self.result; number = t.number }; chart = g.C.Chart.seen c.best.new.chart; costs = c.best.new.costs; nodes = c.best.new.nodes } in
+    let after : Memory g.row.S-Cost.Denot = record { session = record { held = t.held; tally = c.saturating_add-self.result; number = t.number }; chart = g.C.Chart.seen c.best.new.chart; costs = c.best.new.costs; nodes = c.best.new.nodes } in
     let sizes = λ (room span : ℕ). let z : Sizes = record { room = room; span = span; costs = length c.args.costs.now; nodes = length c.args.nodes.now } in z in
     let z = sizes chart.room (g.B.Bound.reach c.args.bound.now) in
-    let is : declined s o t ladder z ≡ None = ap₂ (λ (room span : ℕ). declined s o t ladder (sizes room span)) (sym c.capacity.ensures) (sym c.span.ensures.value) ∙ sym c.declines.ensures ∙ c.in-default.is in
+    let is : declined s o t ladder z ≡ None = ap₂ (λ (room span : ℕ). declined s o t ladder (sizes room span)) (sym c.capacity.ensures) (sym c.span.ensures.value) ∙ sym c.declines.ensures ∙ c.in_default.is in
     let found = subst₂ (λ (r : Rules) (ws : List ℕ). Found s (grammar r) entry ladder ws before.costs after.chart after.costs before.nodes after.nodes tree) c.rules.ensures c.words.ensures c.in-Some-best.ensures.best in
-    let given : Given s o entry ladder before after tree = record { counts = ap (λ (n : ℕ). let u : State = record { held = t.held; tally = n; number = t.number } in u) c.saturating-add-self.ensures; found = found } in
+    let given : Given s o entry ladder before after tree = record { counts = ap (λ (n : ℕ). let u : State = record { held = t.held; tally = n; number = t.number } in u) c.saturating_add-self.ensures; found = found } in
     let answer : Result (Tree g.row.S-Cost.Denot) Refusal = Ok tree in
     record {
       asked = subst (λ (d : Option Refusal). Asked s o entry ladder before after d answer) (sym is) given;
@@ -88,7 +88,7 @@ returns-in-None g c =
     let after : Memory g.row.S-Cost.Denot = record { session = t; chart = g.C.Chart.seen c.best.new.chart; costs = c.best.new.costs; nodes = c.best.new.nodes } in
     let sizes = λ (room span : ℕ). let z : Sizes = record { room = room; span = span; costs = length c.args.costs.now; nodes = length c.args.nodes.now } in z in
     let z = sizes chart.room (g.B.Bound.reach c.args.bound.now) in
-    let is : declined s o t ladder z ≡ None = ap₂ (λ (room span : ℕ). declined s o t ladder (sizes room span)) (sym c.capacity.ensures) (sym c.span.ensures.value) ∙ sym c.declines.ensures ∙ c.in-default.is in
+    let is : declined s o t ladder z ≡ None = ap₂ (λ (room span : ℕ). declined s o t ladder (sizes room span)) (sym c.capacity.ensures) (sym c.span.ensures.value) ∙ sym c.declines.ensures ∙ c.in_default.is in
     let nothing = subst₂ (λ (r : Rules) (ws : List ℕ). Nothing s (grammar r) entry ladder ws before.costs after.chart after.costs before.nodes after.nodes) c.rules.ensures c.words.ensures c.in-None.ensures.best in
     let why : Refusal = NoDerivation in
     let lost : (why ≡ NoDerivation) × Underivable s o entry ladder before after = (refl, record { same = refl; nothing = nothing }) in

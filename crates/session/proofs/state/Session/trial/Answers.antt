@@ -16,8 +16,8 @@ returns c =
     let o = over c.args.grammar.now in
     let n = s.len in
     let held = take n s.words in
-    let none : c.trial-refusal-refused.result ≡ None = none_of _ (sym c.if-is-some.ensures) in
-    let free : refusing o (state s) p w ≡ None = sym c.trial-refusal-refused.ensures ∙ none in
+    let none : c.trial_refusal-refused.result ≡ None = none_of _ (sym c.if-is_some.ensures) in
+    let free : refusing o (state s) p w ≡ None = sym c.trial_refusal-refused.ensures ∙ none in
     let inside = (not_refused (fits o (state s)) (ltb w o.grammar.vocabulary) (leb 1 p && leb p (length held)) NoPlace UnknownWord OtherGrammar free).1 in
     let bounds = and_parts (leb 1 p) (leb p (length held)) inside in
     let first : 1 ≤ p = leb-true 1 p bounds.0 in
@@ -32,7 +32,7 @@ returns c =
     let standing = holding (state s) tried-words in
     record {
       lends = refl;
-      refused = c.trial-refusal-refused.ensures;
+      refused = c.trial_refusal-refused.ensures;
       during = ap (λ (ws : List ℕ). holding (state s) ws) during ∙ sym (tried_held o (state s) p w free);
       undone = ap (λ (r : Option Refusal). back r standing p earlier) none
           ∙ ap (λ (b : Bool). cond b (holding standing (replaced tried-words p earlier)) standing) there
