@@ -1,5 +1,6 @@
-use Rattle.std.proofs.Common.{◌≡◌, ℕ, ◌+◌, ◌<◌, sym, ap, ◌∙◌, subst, ap₂, subst₂, arith}
+use Rattle.std.proofs.Common.{◌≡◌, ℕ, ◌+◌, ◌<◌, Option, sym, ap, ◌∙◌, subst, subst₂, arith}
 use Rattle.derivation.specs.declared.rules.BinaryRule.{BinaryRule}
+use Rattle.derivation.specs.Scale.{Scale}
 use Rattle.settle.specs.Offers.{cell, Only, Grown}
 use Rattle.summary.specs.declared.step.Sought.{Sought}
 use Rattle.summary.specs.declared.step.Step.{Step}
@@ -10,6 +11,10 @@ use Rattle.summary.proofs.rows.apply.Goals as goal
 -- the categories of the step are below the size
 small : (sought : Sought) (r : BinaryRule) (n : ℕ) (t : Step) → t ≡ step sought r → (r.category < n) × (r.left < n) × (r.right < n) → (t.into < n) × (t.first < n) × (t.second < n)
 small sought r n t is named = subst (λ (q : Step). (q.into < n) × (q.first < n) × (q.second < n)) (sym is) (step_small sought r n named)
+
+-- a cost offered at a place, by what they equal
+offer_as : {Cost : Type 0} {s : Scale Cost} {before after : ℕ → Option Cost} {at : ℕ} {x : Cost} (place : ℕ) (cost : Cost) → Grown s (Only at x) before after → at ≡ place → x ≡ cost → Grown s (Only place cost) before after
+offer_as {s = s} {before = before} {after = after} place cost off there is = subst₂ (λ (a : ℕ) c. Grown s (Only a c) before after) there is off
 
 pub overflow_add-one : goal.overflow_add-one
 overflow_add-one g c =
@@ -53,7 +58,6 @@ returns g c =
     let step_is = c.step_of-step.ensures in
     let first = ap (λ (q : Step). cell cells (c.args.one + q.first)) (sym step_is) ∙ sym c.read-first.ensures ∙ c.in-Some.is in
     let second = ap (λ (q : Step). cell cells (c.args.two + q.second)) (sym step_is) ∙ sym c.read-second.ensures ∙ c.in-Some-second.is in
-    let cost = c.join-2.ensures ∙ ap₂ s.join c.price.ensures c.join.ensures in
-    let offered = subst₂ (λ (q : Step) (x : g.row.S-Cost.Denot). Grown s (Only (c.args.base + q.into) x) (cell cells) (cell c.offer.new.row)) step_is cost c.offer.ensures in
+    let offered = offer_as (c.args.base + (step sought rule).into) (s.join (s.price rule.weight) (s.join y z)) c.offer.ensures (ap (λ (q : Step). c.args.base + q.into) step_is) (cc) in
     let row = into_offer lawful (step sought rule).into (s.join (s.price rule.weight) (s.join y z)) (step_small sought rule c.args.size c.requires.named).0 offered in
     into_as lawful row (only_joined first second) (joined_only first second)
