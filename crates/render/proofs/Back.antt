@@ -5,7 +5,7 @@ use Rattle.std.proofs.lemmas.Bool.Decides.{nat_tests}
 use Rattle.derivation.specs.Derivation.{Derivation, word, chain, binary}
 use Rattle.derivation.specs.Grammar.{Grammar}
 use Rattle.render.specs.Render.{render}
-use Rattle.render.specs.Read.{Shape, leaf, one, two, shape, in_name, all_in_name, Name, Spelt, maybe, after, name, parts, read_tree, read, ReadsBack}
+use Rattle.render.specs.Read.{Shape, leaf, one, two, shape, in_name, all_in_name, Name, Spelt, maybe, after, name, parts, read_tree, ReadsBack}
 
 -- a name ends where a byte comes that is of no name
 name_front : (c : ℕ) → in_name c ≡ false → (xs ys : List ℕ) → all_in_name xs ≡ true → name (xs ++ (c ∷ ys)) ≡ (xs, c ∷ ys)

@@ -1,6 +1,6 @@
 -- What the end of a trial leaves.
-use Rattle.std.proofs.Common.{◌≡◌, ℕ, ◌≤◌, Bool, true, false, cond, ◌&&◌, leb, length, is_some, Option, sym, refl, ap, ◌∙◌}
-use Rattle.std.proofs.lemmas.Bool.{and_from, le-leb, cases_Bool}
+use Rattle.std.proofs.Common.{◌≡◌, ℕ, ◌≤◌, Bool, true, false, cond, ◌&&◌, leb, length, is_some, Option, refl, ap, ◌∙◌}
+use Rattle.std.proofs.lemmas.Bool.{and_from, le-leb}
 use Rattle.refusals.specs.declared.Refusal.{Refusal}
 use Rattle.session.specs.State.{State, holding}
 use Rattle.session.specs.Calls.{replaced, back}

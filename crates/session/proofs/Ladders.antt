@@ -1,9 +1,8 @@
 -- The test that a ladder rises, and what it tells.
-use Rattle.std.proofs.Common.{◌≡◌, ℕ, zero, suc, ◌+◌, ◌<◌, ◌≤◌, Bool, true, false, ◌&&◌, List, [], ◌∷◌, length, get_or, Some, None, sym, refl, ap, ◌∙◌, subst, arith}
+use Rattle.std.proofs.Common.{◌≡◌, ℕ, zero, suc, ◌+◌, ◌<◌, true, List, [], ◌∷◌, length, get_or, Some, sym, refl, subst, arith}
 use Rattle.std.proofs.lemmas.Bool.{and_parts, and_from}
 use Rattle.derivation.specs.Scale.{Scale}
 use Rattle.derivation.specs.Ladder.{ceiling_at, Rising}
-use Rattle.derivation.proofs.Laws.{not_both}
 use Rattle.table.proofs.Growing.{none_some, some_same}
 use Rattle.session.specs.Request.{rises}
 

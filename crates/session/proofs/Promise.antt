@@ -1,20 +1,16 @@
 -- The promise of the cheapest tree, from what a request answers and leaves.
-use Rattle.std.proofs.Common.{◌≡◌, ℕ, ◌+◌, ◌-◌, ◌*◌, ◌/◌, ◌<◌, ◌≤◌, Bool, true, false, cond, ◌&&◌, eqb, leb, ◌⊎◌, List, length, is_some, Some, None, Ok, Err, Option, Result, sym, refl, ap, ◌∙◌, subst, inl, inr, arith}
+use Rattle.std.proofs.Common.{◌≡◌, ℕ, ◌+◌, ◌-◌, ◌*◌, ◌/◌, ◌≤◌, Bool, true, false, cond, ◌&&◌, eqb, leb, List, length, is_some, Some, None, Ok, Err, Option, Result, refl, ap, ◌∙◌, subst, inl, inr, arith}
 use Rattle.std.proofs.lemmas.Bool.{and_parts, and_from, le-leb, leb-true, ne_eqb, eq-eqb}
 use Rattle.refusals.specs.declared.Refusal.{Refusal}
 use Rattle.refusals.specs.declared.Refusal.TheVariants.{OtherGrammar, NoWords, WrongLadder, TooSmall, NoDerivation}
-use Rattle.derivation.specs.Scale.{Scale, Lawful, Within}
-use Rattle.derivation.specs.Grammar.{Grammar}
-use Rattle.derivation.specs.Derivation.{Derivation, cost}
+use Rattle.derivation.specs.Scale.{Scale, Lawful}
 use Rattle.derivation.specs.Bounds.{Entries, Bounds}
-use Rattle.derivation.specs.Kept.{Kept, KeptNumber}
-use Rattle.derivation.specs.Ladder.{ceiling_at, Rising, passed, Succeeds}
+use Rattle.derivation.specs.Ladder.{Rising, Succeeds}
 use Rattle.derivation.proofs.Laws.{not_both}
 use Rattle.derivation.proofs.Ladder.{settles}
 use Rattle.derivation.proofs.Table.{all_pass}
 use Rattle.table.proofs.Growing.{some_same}
 use Rattle.search.specs.declared.best.Tree.{Tree}
-use Rattle.search.specs.Best.{Found, Nothing}
 use Rattle.search.proofs.Rounds.{kept_in}
 use Rattle.session.specs.declared.sizes.Sizes.{Sizes}
 use Rattle.session.specs.State.{State, Over}

@@ -1,12 +1,12 @@
 -- The words held after a list of calls are fixed by the calls' arguments.
-use Rattle.std.proofs.Common.{◌≡◌, ℕ, ◌+◌, ◌-◌, ◌≤◌, Bool, true, false, cond, ◌&&◌, eqb, ltb, leb, ◌⊎◌, List, [], ◌∷◌, ◌++◌, length, take, set, is_some, is_ok, Some, None, Ok, Err, Option, Result, sym, refl, ap, ◌∙◌, subst, inl, inr, ⊎_elim, arith, length-append, length-set, length-take}
+use Rattle.std.proofs.Common.{◌≡◌, ℕ, ◌+◌, ◌-◌, ◌≤◌, Bool, true, false, cond, ◌&&◌, ltb, leb, List, [], ◌∷◌, ◌++◌, length, take, is_some, is_ok, Some, None, Ok, Err, Option, sym, refl, ap, ◌∙◌, subst, ⊎_elim, arith, length-append, length-set, length-take}
 use Rattle.std.proofs.lemmas.Bool.{eq-eqb}
 use Rattle.std.proofs.lemmas.Bool.Decides.{nat_tests}
 use Rattle.refusals.specs.declared.Refusal.{Refusal}
 use Rattle.refusals.specs.declared.Refusal.TheVariants.{OtherGrammar, UnknownWord, SessionFull, NoPlace}
-use Rattle.session.specs.State.{State, Over, opened, holding}
-use Rattle.session.specs.Calls.{fits, put, taken, refusing, tried, replaced, counted}
-use Rattle.session.specs.Runs.{End, kept, dropped, undecided, Call, put_word, take_back, trial, refused_trial, request, after, held_from, held, Requested, Requests, none, more, ended, Step, putting, taking, trying, refused, asking, Leads, start, next, Stands}
+use Rattle.session.specs.State.{State, Over, holding}
+use Rattle.session.specs.Calls.{fits, refusing, tried, replaced, counted}
+use Rattle.session.specs.Runs.{kept, dropped, undecided, Call, put_word, take_back, trial, refused_trial, request, after, held_from, held, Requested, Requests, none, more, Step, putting, taking, trying, refused, asking, Leads, start, next}
 
 -- a call that two tests let through, on a session of this grammar
 let_through : (a b c : Bool) (n : ℕ) (s t : State) (x y z : Refusal) → a ≡ true → (cond (is_ok {T = ℕ} {E = Refusal} (cond a (cond b (cond c (Ok n) (Err x)) (Err y)) (Err z))) t s).held ≡ cond (b && c) t.held s.held

@@ -1,5 +1,5 @@
 -- A word written among those held.
-use Rattle.std.proofs.Common.{◌≡◌, ℕ, zero, suc, ◌<◌, true, false, List, [], ◌∷◌, get_or, take, set, is_some, Some, None, Option, sym, refl, ap, ◌∙◌, arith, set-set}
+use Rattle.std.proofs.Common.{◌≡◌, ℕ, zero, suc, ◌<◌, false, List, [], ◌∷◌, get_or, take, set, is_some, Some, None, Option, sym, refl, ap, ◌∙◌, arith, set-set}
 use lib.Seq.{set-get_or}
 use Rattle.derivation.proofs.Laws.{not_both}
 

@@ -1,10 +1,9 @@
 -- What a tree request answers and leaves.
-use Rattle.std.specs.Prelude.{◌≡◌, ℕ, ◌+◌, ◌-◌, ◌*◌, ◌/◌, ◌≤◌, Bool, true, false, cond, not, ◌&&◌, ◌||◌, List, [], ◌∷◌, length, Some, None, Ok, Err, Option, Result, ◌==◌, nat_le}
+use Rattle.std.specs.Prelude.{◌≡◌, ℕ, ◌+◌, ◌-◌, ◌*◌, ◌/◌, Bool, true, cond, ◌&&◌, List, [], ◌∷◌, length, Some, None, Ok, Err, Option, Result, ◌==◌, nat_le}
 use Rattle.refusals.specs.declared.Refusal.{Refusal}
 use Rattle.refusals.specs.declared.Refusal.TheVariants.{OtherGrammar, NoWords, WrongLadder, TooSmall, NoDerivation}
 use Rattle.derivation.specs.Scale.{Scale}
 use Rattle.derivation.specs.Bounds.{Entries}
-use Rattle.derivation.specs.Ladder.{Rising}
 use Rattle.chart.specs.Meaning.{Seen as Chart}
 use Rattle.tree.specs.declared.node.Node.{Node}
 use Rattle.search.specs.declared.best.Tree.{Tree}

@@ -1,7 +1,6 @@
-use Rattle.std.proofs.Common.{◌≡◌, ℕ, ◌+◌, ◌<◌, Bool, true, cond, List, [], ◌∷◌, ◌++◌, length, take, is_ok, Ok, Result, sym, refl, ap, ◌∙◌, rules}
+use Rattle.std.proofs.Common.{◌≡◌, ℕ, ◌+◌, ◌<◌, Bool, true, cond, List, [], ◌∷◌, ◌++◌, length, take, is_ok, Ok, sym, refl, ap, ◌∙◌, rules}
 use Rattle.std.proofs.lemmas.List.{take_more_set}
-use Rattle.refusals.specs.declared.Refusal.{Refusal}
-use Rattle.session.specs.State.{State, state, over, holding}
+use Rattle.session.specs.State.{state, over, holding}
 use Rattle.session.specs.Calls.{putting}
 use Rattle.session.proofs.state.Session.put.Goals as goal
 

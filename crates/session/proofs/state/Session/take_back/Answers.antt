@@ -1,5 +1,5 @@
 use Rattle.std.proofs.Common.{◌≡◌, ℕ, ◌-◌, ◌≤◌, Bool, true, cond, List, length, take, is_ok, Ok, sym, refl, ap, ◌∙◌, arith, take-take, rules}
-use Rattle.session.specs.State.{State, state, over, holding}
+use Rattle.session.specs.State.{state, over, holding}
 use Rattle.session.specs.Calls.{taking}
 use Rattle.session.proofs.state.Session.take_back.Goals as goal
 

@@ -10,7 +10,6 @@ use Rattle.search.specs.Best.{Found, Nothing}
 use Rattle.session.specs.declared.sizes.Sizes.{Sizes}
 use Rattle.session.specs.State.{State, state, over}
 use Rattle.session.specs.Request.{declined, Memory, Asked, Given, Underivable}
-use Rattle.session.specs.Runs.{held}
 use Rattle.session.specs.Cheapest.{Cheapest}
 use Rattle.session.proofs.Promise.{cheapest_asked, fits_in}
 use Rattle.session.proofs.Runs.{led}

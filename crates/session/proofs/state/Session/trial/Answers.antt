@@ -2,8 +2,8 @@ use Rattle.std.proofs.Common.{◌≡◌, ℕ, ◌-◌, ◌<◌, ◌≤◌, Bool,
 use Rattle.std.proofs.lemmas.Bool.{and_parts, and_from, leb-true, le-leb}
 use Rattle.refusals.specs.declared.Refusal.{Refusal}
 use Rattle.refusals.specs.declared.Refusal.TheVariants.{OtherGrammar, UnknownWord, NoPlace}
-use Rattle.session.specs.State.{State, state, over, holding}
-use Rattle.session.specs.Calls.{fits, refusing, tried, back, replaced}
+use Rattle.session.specs.State.{state, over, holding}
+use Rattle.session.specs.Calls.{fits, refusing, back, replaced}
 use Rattle.session.proofs.Runs.{not_refused, tried_held}
 use Rattle.session.proofs.Words.{take_set, written_back, none_of}
 use Rattle.session.proofs.state.Session.trial.Goals as goal
