@@ -22,7 +22,7 @@ pub trait Spelling {
 }
 
 fn open<S: Spelling>(names: &S, category: u8, out: &mut Vec<u8>) -> Result<(), AllocError>
-    ensures { IfOk result (λ _. out.new.items ≡ out.old.items ++ (codes "(" ++ (titles names.now category ++ codes " "))) }
+    ensures { IfOk result (λ _. out.new.items ≡ out.old.items ++ (codes "(" ++ (S.titles names.now category ++ codes " "))) }
 {
     out.extend_from_slice(b"(")?;
     out.extend_from_slice(names.category(category))?;
@@ -31,7 +31,7 @@ fn open<S: Spelling>(names: &S, category: u8, out: &mut Vec<u8>) -> Result<(), A
 }
 
 fn word<S: Spelling>(names: &S, place: usize, out: &mut Vec<u8>) -> Result<(), AllocError>
-    ensures { OnOk result (out.new.items ≡ out.old.items ++ (spellings names.now place ++ codes ")")) }
+    ensures { OnOk result (out.new.items ≡ out.old.items ++ (S.spellings names.now place ++ codes ")")) }
 {
     out.extend_from_slice(names.word(place))?;
     out.extend_from_slice(b")")?;
@@ -45,7 +45,7 @@ pub fn show<'a, S: Spelling>(
     out: &mut Vec<u8>,
 ) -> Result<&'a [Node], AllocError>
     ensures fewer { IfOk result (λ left. length left.now ≤ length nodes.now) }
-    ensures text { IfOk result (λ left. Shows (titles names.now) (spellings names.now) nodes.now left.now out.old.items out.new.items) }
+    ensures text { IfOk result (λ left. Shows (S.titles names.now) (S.spellings names.now) nodes.now left.now out.old.items out.new.items) }
 {
     let Some((node, others)) = nodes.split_first() else {
         return Ok(nodes);

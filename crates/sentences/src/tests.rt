@@ -20,6 +20,6 @@ fn refused_lines(rt: HostRuntime) -> Result<(), Fail> {
 #[test]
 fn no_top(rt: HostRuntime) -> Result<(), Fail> {
     let out = answers(rt.alloc(), b"(lex 1 (A a))\n(say a)\n(top A)\n(say b)")?;
-    assert!(rt; out.as_slice() == b"(refused 9 2)\n(refused 4 3)\n(refused 9 4)\n");
+    assert!(rt; out.as_slice() == b"(refused 9 2)\n(refused 4 3)\n(refused 9 4)\n".as_slice());
     Ok(())
 }

@@ -2,7 +2,7 @@
 ghost use Rattle.std.specs.Prelude.{◌≡◌};
 ghost use Rattle.grammar.specs.Moving.{sealed, drawn};
 ghost use Rattle.session.specs.State.{state, over};
-ghost use Rattle.session.specs.Calls.{putting, put as after-put, taking, taken};
+ghost use Rattle.session.specs.Calls.{putting, put as after_put, taking, taken};
 ghost use Rattle.session.specs.Opening.{Opening, closing, closed};
 
 use crate::state::Session;
@@ -44,7 +44,7 @@ impl Session {
     // Adds one word at the end, and answers the new count.
     pub fn put(&mut self, grammar: &Closed, word: u16) -> Result<usize, Refusal>
         ensures answer { result ≡ putting (over grammar.now) (state self.old) word }
-        ensures after { state self.new ≡ after-put (over grammar.now) (state self.old) word }
+        ensures after { state self.new ≡ after_put (over grammar.now) (state self.old) word }
         ensures number { self.new.number ≡ self.old.number }
     {
         if self.number != grammar.number() {

@@ -21,7 +21,7 @@ const CEILINGS: usize = 16;
 
 // Whether each ceiling is above the one before it.
 fn rising<S: Scale>(ladder: &[S::Cost]) -> bool
-    ensures { result ≡ rises scale ladder.now }
+    ensures { result ≡ rises S.scale ladder.now }
 {
     for k in 1..ladder.len() {
         if !S::above(ladder[k], ladder[k - 1]) {
@@ -50,7 +50,7 @@ impl Session {
         ladder: &[S::Cost],
         sizes: Sizes,
     ) -> Option<Refusal>
-        ensures { result ≡ declined scale (over grammar.now) (state self.now) ladder.now sizes }
+        ensures { result ≡ declined S.scale (over grammar.now) (state self.now) ladder.now sizes }
     {
         if self.number != grammar.number() {
             return Some(Refusal::OtherGrammar);
@@ -77,9 +77,9 @@ impl Session {
         costs: &mut [S::Cost],
         nodes: &mut [Node],
     ) -> Result<Tree<S::Cost>, Refusal>
-        ensures asked { Asked scale (over grammar.now) (limit bound.now) ladder.now (record { session = state self.old; chart = seen chart.old; costs = costs.old; nodes = nodes.old }) (record { session = state self.new; chart = seen chart.new; costs = costs.new; nodes = nodes.new }) (declined scale (over grammar.now) (state self.old) ladder.now (record { room = (seen chart.old).room; span = reach bound.now; costs = length costs.old; nodes = length nodes.old })) result }
+        ensures asked { Asked S.scale (over grammar.now) (B.limit bound.now) ladder.now (record { session = state self.old; chart = C.seen chart.old; costs = costs.old; nodes = nodes.old }) (record { session = state self.new; chart = C.seen chart.new; costs = costs.new; nodes = nodes.new }) (declined S.scale (over grammar.now) (state self.old) ladder.now (record { room = (C.seen chart.old).room; span = B.reach bound.now; costs = length costs.old; nodes = length nodes.old })) result }
         ensures number { self.new.number ≡ self.old.number }
-        ensures cheapest { (calls : List Call) → Leads (over grammar.now) calls (state self.old) → made bound.now (over grammar.now).grammar → Cheapest scale (over grammar.now).grammar (limit bound.now) ladder.now (held (over grammar.now) calls) (record { room = (seen chart.old).room; span = reach bound.now; costs = length costs.old; nodes = length nodes.old }) nodes.new result }
+        ensures cheapest { (calls : List Call) → Leads (over grammar.now) calls (state self.old) → B.made bound.now (over grammar.now).grammar → Cheapest S.scale (over grammar.now).grammar (B.limit bound.now) ladder.now (held (over grammar.now) calls) (record { room = (C.seen chart.old).room; span = B.reach bound.now; costs = length costs.old; nodes = length nodes.old }) nodes.new result }
     {
         let sizes = Sizes {
             room: chart.capacity(),
