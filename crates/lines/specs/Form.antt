@@ -1,6 +1,6 @@
 -- What a line says: its form, or its fault. The cause of a fault is chosen by the order of the causes over the whole line, and not by place.
 use Rattle.std.specs.Prelude.{ℕ, ◌+◌, ◌<◌, ◌≤◌, List, [], ◌∷◌, ◌++◌, length, Some, None, Ok, Err, vec_items, Option, Result}
-use Rattle.std.specs.List.{AllByRecursion as All}
+use Rattle.std.specs.List.{AllByRecursion}
 use Rattle.refusals.specs.declared.Refusal.{Refusal}
 use Rattle.refusals.specs.declared.Refusal.TheVariants.{ForeignByte, TooLong, Unpaired, WrongForm, WrongNumber}
 use Rattle.lines.specs.declared.fault.LineFault.{LineFault}
@@ -103,7 +103,7 @@ Inside n (binary w a b c) = Lies n a × Lies n b × Lies n c
 Inside n (lexical w a x) = Lies n a × Lies n x
 Inside n (scale s) = Unit {0}
 Inside n (ladder ts) = Unit {0}
-Inside n (say ws) = All (Lies n) ws
+Inside n (say ws) = AllByRecursion (Lies n) ws
 
 abbrev pub InsideIf : ℕ → Option (Reading ℕ) → Type 0
 InsideIf n None = Unit {0}
