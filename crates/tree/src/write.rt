@@ -3,7 +3,7 @@ ghost use Rattle.std.specs.Prelude.{◌≡◌, ◌+◌, ◌-◌, ◌*◌, ◌<�
 ghost use Rattle.derivation.specs.Grammar.{grammar};
 ghost use Rattle.table.specs.Memory.{view, Ready};
 ghost use Rattle.tree.specs.Extracted.{Finished, Extracted};
-ghost use Rattle.tree.specs.Preorder.{node as as-node};
+ghost use Rattle.tree.specs.Preorder.{node as as_node};
 ghost use Rattle.tree.specs.Ranks.{Ranked, AllGrounded};
 ghost use Rattle.tree.specs.Wrote.{Wrote};
 
@@ -18,7 +18,7 @@ fn node(a: u8, b: usize, e: usize, kind: Kind, k: usize) -> Node
     requires order { b ≤ e }
     requires last { e ≤ 40 }
     requires few { k < 1024 }
-    ensures { result ≡ as-node a b e kind k }
+    ensures { result ≡ as_node a b e kind k }
 {
     Node {
         category: a,
