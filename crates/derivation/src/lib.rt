@@ -12,15 +12,11 @@ pub use rules::{BinaryRule, ChainRule, WordRule};
 pub use tables::Rules;
 
 // Holds the theorem by its name: on every kind of cost, a round with a ceiling loses nothing.
-pub fn pruning_loses_nothing<C>() -> u8
+pub fn pruning_loses_nothing<C>()
     ensures { (s : Scale C) → PruningLosesNothing s }
-{
-    0
-}
+{}
 
 // Holds the theorem by its name: the first round that keeps the top has the least cost of all, and its number counts the ceilings below that cost.
-pub fn first_success_is_cheapest<C>() -> u8
+pub fn first_success_is_cheapest<C>()
     ensures { (s : Scale C) → FirstSuccessIsCheapest s }
-{
-    0
-}
+{}

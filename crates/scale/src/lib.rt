@@ -17,7 +17,7 @@ pub trait Scale {
 
     ghost scale: { Meaning Self.Cost };
 
-    // `NEUTRAL`, from which joins start, with what it means: a constant has no clause of its own.
+    // `NEUTRAL`, from which joins start, with what it means. A law that ties the constant itself would ask more of every scale.
     fn start() -> Self::Cost
         ensures { result ≡ scale.neutral };
 
@@ -38,8 +38,5 @@ pub fn same<S: Scale>(a: S::Cost, b: S::Cost) -> bool
     ensures yes { result ≡ true → a ≡ b }
     ensures no { result ≡ false → a ≢ b }
 {
-    if S::above(a, b) {
-        return false;
-    }
-    !S::above(b, a)
+    !S::above(a, b) && !S::above(b, a)
 }

@@ -1,4 +1,4 @@
--- Whether a row is closed under the rules, rule by rule.
+-- Whether a column is closed under the rules, rule by rule.
 use Rattle.std.proofs.Common.{◌≡◌, ℕ, ◌+◌, ◌<◌, Bool, true, false, List, length, get_or, Some, None, Option, sym, refl, subst, arith}
 use native.Mathlib.Decide.{ℕ_discrete}
 use Rattle.derivation.specs.declared.rules.ChainRule.{ChainRule}
@@ -8,8 +8,9 @@ use Rattle.derivation.specs.Bounds.{Filled}
 use Rattle.derivation.proofs.Laws.{not_both}
 use Rattle.settle.specs.declared.direction.Direction.{Direction}
 use Rattle.settle.specs.declared.direction.Direction.TheVariants.{Up, Down}
+use Rattle.settle.specs.Column.{Column, AllOpen}
 use Rattle.settle.specs.Chains.{source, target, lowered, Closed}
-use Rattle.settle.proofs.Growing.{none_some, some_same, at_read, at_same}
+use Rattle.derivation.proofs.Reading.{none_some, some_same, at_read, at_same}
 
 pub named_small : (direction : Direction) (r : ChainRule) (n : ℕ) → (r.category < n) × (r.part < n) → (source direction r < n) × (target direction r < n)
 named_small Up r n h = (h.1, h.0)
@@ -26,12 +27,12 @@ module _ {Cost : Type 0} (s : Scale Cost) (weight : ℕ) where
   lowered_yes (Some c) None h closed = closed c refl
   lowered_yes (Some c) (Some y) h closed = not_both h (closed c refl)
 
-module _ {Cost : Type 0} (s : Scale Cost) (direction : Direction) (chains : List ChainRule) (row : ℕ → Option Cost) where
+module _ {Cost : Type 0} (s : Scale Cost) (direction : Direction) (chains : List ChainRule) (row : Column Cost) where
   -- closed under the first j rules
   pub record ClosedTo (j : ℕ) : Type 0 where
     pub by : (k : ℕ) (r : ChainRule) (x : Cost) → k < j → At chains k r → row (source direction r) ≡ Some x → Filled (row (target direction r)) (λ y. Within s y (s.join (s.price r.weight) x))
 
-  -- whether a rule lowers a cost of the row
+  -- whether a rule lowers a cost of the column
   abbrev pub lowering : ChainRule → Bool
   lowering r = lowered s r.weight (row (source direction r)) (row (target direction r))
 
@@ -45,10 +46,7 @@ module _ {Cost : Type 0} (s : Scale Cost) (direction : Direction) (chains : List
     ];
   }
 
-  pub closed_stop : (j : ℕ) (d : ChainRule) → j < length chains → lowering (get_or chains j d) ≡ true → Closed s direction chains row → ⊥
+  pub closed_stop : (j : ℕ) (d : ChainRule) → j < length chains → lowering (get_or chains j d) ≡ true → Closed s AllOpen direction chains row → ⊥
   closed_stop j d inside active closed =
       let r = get_or chains j d in
-      lowered_yes s r.weight (row (source direction r)) (row (target direction r)) active (λ x is. closed.by j r x (at_read chains j d inside) is)
-
-  pub closed_all : (j : ℕ) → length chains ≡ j → ClosedTo j → Closed s direction chains row
-  closed_all j all closed = record { by = λ k r x at is. closed.by k r x (omega (arith, at.inside)) at is }
+      lowered_yes s r.weight (row (source direction r)) (row (target direction r)) active (λ x is. closed.by j r x (at_read chains j d inside) is tt)

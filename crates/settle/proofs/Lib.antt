@@ -1,4 +1,4 @@
 pub mod Growing
+pub mod Rows
 mod Closing
-mod Picking
 mod Going

@@ -1,2 +1,4 @@
+pub mod Column
 pub mod Offers
+pub mod Rows
 pub mod Chains

@@ -1,7 +1,6 @@
--- Costs offered to a row, which has for each category a cost or none: the cheapest stays.
-use Rattle.std.specs.Prelude.{◌≡◌, ℕ, ◌<◌, ◌⊎◌, List, Some, None, Option, slice_index_or}
-use Rattle.derivation.specs.Scale.{Scale, Within}
-use Rattle.derivation.specs.Bounds.{Filled}
+-- What is offered, and the column that a list of costs is.
+use Rattle.std.specs.Prelude.{◌≡◌, ℕ, ◌<◌, List, Some, None, Option, slice_index_or}
+use Rattle.derivation.specs.Scale.{Scale}
 use Rattle.derivation.specs.Named.{At}
 
 -- the cost at a place, none past the end
@@ -20,8 +19,8 @@ pub record By {Cost X : Type 0} (xs : List X) (j : ℕ) (offers : X → ℕ → 
   pub at : At xs place one
   pub offered : offers one A x
 
--- the row `before` once these costs were offered: nothing has become dearer, no cost is above an offered one, and each was there or was offered
-pub record Grown {Cost : Type 0} (s : Scale Cost) (offers : ℕ → Cost → Type 0) (before after : ℕ → Option Cost) : Type 0 where
-  pub lower : (A : ℕ) (y : Cost) → before A ≡ Some y → Filled (after A) (λ x. Within s x y)
-  pub made : (A : ℕ) (x : Cost) → offers A x → Filled (after A) (λ y. Within s y x)
-  pub origin : (A : ℕ) (x : Cost) → after A ≡ Some x → (before A ≡ Some x) ⊎ offers A x
+-- what a rule of a weight makes of two costs
+abbrev pub joined : {Cost : Type 0} → Scale Cost → ℕ → Option Cost → Option Cost → Option Cost
+joined s weight (Some y) (Some z) = Some (s.join (s.price weight) (s.join y z))
+joined s weight (Some y) None = None
+joined s weight None o = None

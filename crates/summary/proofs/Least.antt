@@ -5,7 +5,7 @@ use Rattle.derivation.specs.Grammar.{Grammar}
 use Rattle.derivation.specs.Derivation.{cost}
 use Rattle.derivation.specs.Bounds.{Filled}
 use Rattle.derivation.proofs.Pruning.{mono}
-use Rattle.settle.proofs.Growing.{none_some, some_same}
+use Rattle.derivation.proofs.Reading.{none_some, some_same}
 use Rattle.summary.specs.Least.{Least, Over, LeastInside}
 use Rattle.summary.proofs.Trees.{Tree, worth, tree_of, whole_of}
 

@@ -1,7 +1,7 @@
 -- The order of the rows, and how many there are.
 use Rattle.std.proofs.Common.{◌≡◌, ℕ, zero, suc, ◌+◌, ◌-◌, ◌*◌, ◌/◌, ◌<◌, ◌≤◌, sym, refl, ap, ◌∙◌, subst, inl, inr, mul-le-mul_right, add-mul, mul-add, div-mul-le_self, add-one, arith}
 use native.Mathlib.Nat.{lt-div-mul-add}
-use native.Mathlib.Decide.{ℕ_discrete, dec_lt}
+use native.Mathlib.Decide.{ℕ_discrete}
 use Rattle.summary.specs.declared.step.Side.{Side}
 use Rattle.summary.specs.declared.step.Side.TheVariants.{Left, Right}
 use Rattle.summary.specs.Memory.{tri, place, entries_for}
@@ -31,15 +31,6 @@ place_before span n l r a b sum (inr h) =
 pub earlier_sum : (n l a b : ℕ) → Earlier n l a b → a + b ≤ n
 earlier_sum n l a b (inl h) = omega arith
 earlier_sum n l a b (inr h) = omega (arith, h.0)
-
-pub earlier_none : (a b : ℕ) → Earlier 0 0 a b → ⊥
-earlier_none a b (inl h) = omega arith
-earlier_none a b (inr h) = omega (arith, h.1)
-
--- all pairs of n words stand before the first pair of one more
-pub earlier_next : (n a b : ℕ) → Earlier (n + 1) 0 a b → Earlier n (n + 1) a b
-earlier_next n a b (inl h) = elim (dec_lt (a + b) n) [ yes k ↦ inl k | no k ↦ inr (omega arith, omega arith) ]
-earlier_next n a b (inr h) = absurd (omega (arith, h.1))
 
 -- the last row that there is
 pub place_fits : (size span n l r : ℕ) → l + r ≡ n → n < span → place span l r * size + size ≤ (span + tri span) * size

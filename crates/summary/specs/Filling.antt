@@ -1,21 +1,18 @@
 -- What is offered to a row of the memory, and which rows stand while the summary is made.
 use Rattle.std.specs.Prelude.{◌≡◌, ℕ, ◌+◌, ◌-◌, ◌<◌, ◌≤◌, ◌⊎◌, List, length, Some, Option}
 use Rattle.derivation.specs.declared.rules.WordRule.{WordRule}
-use Rattle.derivation.specs.declared.rules.ChainRule.{ChainRule}
 use Rattle.derivation.specs.declared.rules.BinaryRule.{BinaryRule}
 use Rattle.derivation.specs.Grammar.{Grammar}
-use Rattle.derivation.specs.Scale.{Scale, Within}
-use Rattle.derivation.specs.Bounds.{Filled}
-use Rattle.settle.specs.declared.direction.Direction.{Direction}
-use Rattle.settle.specs.Offers.{cell, By, Grown}
-use Rattle.settle.specs.Chains.{Settled}
+use Rattle.derivation.specs.Scale.{Scale}
+use Rattle.settle.specs.Column.{Column}
+use Rattle.settle.specs.Offers.{cell, By, joined}
 use Rattle.summary.specs.declared.step.Side.{Side}
 use Rattle.summary.specs.declared.step.Side.TheVariants.{Left, Right}
 use Rattle.summary.specs.declared.step.Sought.{Sought}
 use Rattle.summary.specs.declared.step.Sought.TheVariants.{Whole, Gap}
 use Rattle.summary.specs.declared.step.Step.{Step}
 use Rattle.summary.specs.Least.{LeastInside, LeastOutside}
-use Rattle.summary.specs.Memory.{place, view, inner, outer}
+use Rattle.summary.specs.Memory.{place, inner, outer}
 
 -- which category a binary rule gives a cost to, and from which two
 abbrev pub step : Sought → BinaryRule → Step
@@ -28,38 +25,18 @@ pub record Beside {Cost : Type 0} (size base : ℕ) (before after : List (Option
   pub ahead : (k : ℕ) → k < base → cell after k ≡ cell before k
   pub past : (k : ℕ) → base + size ≤ k → cell after k ≡ cell before k
 
--- costs offered to the row at a base
-pub record Into {Cost : Type 0} (s : Scale Cost) (size base : ℕ) (offers : ℕ → Cost → Type 0) (before after : List (Option Cost)) : Type 0 where
-  pub beside : Beside size base before after
-  pub grown : Grown s offers (view size before base) (view size after base)
-
--- the row at a base made anew from these offers
-pub record Fresh {Cost : Type 0} (s : Scale Cost) (size base : ℕ) (offers : ℕ → Cost → Type 0) (before after : List (Option Cost)) : Type 0 where
-  pub beside : Beside size base before after
-  pub made : (A : ℕ) (x : Cost) → offers A x → Filled (view size after base A) (λ y. Within s y x)
-  pub origin : (A : ℕ) (x : Cost) → view size after base A ≡ Some x → offers A x
-
--- the row at a base closed under the chain rules
-pub record ClosedRow {Cost : Type 0} (s : Scale Cost) (direction : Direction) (chains : List ChainRule) (size base : ℕ) (before after : List (Option Cost)) : Type 0 where
-  pub beside : Beside size base before after
-  pub settled : Settled s direction chains (view size before base) (view size after base)
-
 -- what a word rule offers
 abbrev pub Words : {Cost : Type 0} → Scale Cost → WordRule → ℕ → Cost → Type 0
 Words s r A x = (r.category ≡ A) × (x ≡ s.price r.weight)
 
--- what a binary rule offers, from the rows at `one` and `two`
-pub record Joined {Cost : Type 0} (s : Scale Cost) (sought : Sought) (one two : ℕ) (cells : List (Option Cost)) (r : BinaryRule) (A : ℕ) (x : Cost) : Type 0 where
-  pub y : Cost
-  pub z : Cost
-  pub first : cell cells (one + (step sought r).first) ≡ Some y
-  pub second : cell cells (two + (step sought r).second) ≡ Some z
+-- what a binary rule offers, from two rows
+pub record Joined {Cost : Type 0} (s : Scale Cost) (sought : Sought) (first second : Column Cost) (r : BinaryRule) (A : ℕ) (x : Cost) : Type 0 where
   pub goes : (step sought r).into ≡ A
-  pub is : x ≡ s.join (s.price r.weight) (s.join y z)
+  pub is : joined s r.weight (first (step sought r).first) (second (step sought r).second) ≡ Some x
 
 -- what all of the binary rules offer
-abbrev pub Joins : {Cost : Type 0} → Scale Cost → Sought → List BinaryRule → ℕ → ℕ → List (Option Cost) → ℕ → Cost → Type 0
-Joins s sought rules one two cells = By rules (length rules) (Joined s sought one two cells)
+abbrev pub Joins : {Cost : Type 0} → Scale Cost → Sought → List BinaryRule → Column Cost → Column Cost → ℕ → Cost → Type 0
+Joins s sought rules first second = By rules (length rules) (Joined s sought first second)
 
 -- what is offered at some m from 1 below j
 pub record Pile {Cost : Type 0} (j : ℕ) (offers : ℕ → ℕ → Cost → Type 0) (A : ℕ) (x : Cost) : Type 0 where

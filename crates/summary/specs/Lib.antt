@@ -1,3 +1,4 @@
 pub mod Least
 pub mod Memory
 pub mod Filling
+pub mod Kept

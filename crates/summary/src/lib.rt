@@ -7,15 +7,15 @@ ghost use Rattle.summary.specs.Memory.{tri, outer, entries_for, Widest, Summed};
 
 use bound::Bound;
 use derivation::Rules;
-use lengths::fill_lengths;
-use pairs::{fill_pairs, row_of};
+use pair::row_of;
+use rows::row_at;
 use scale::Scale;
-use settle::read;
 
-pub mod lengths;
-pub mod pairs;
-pub mod rows;
-pub mod step;
+mod lengths;
+mod pair;
+mod pairs;
+mod rows;
+mod step;
 
 const MOST_WORDS: usize = 40;
 
@@ -42,12 +42,10 @@ fn widest(categories: usize, room: usize) -> usize
     requires { 1 ≤ categories }
     ensures { Widest categories room result }
 {
-    for span in 0..MOST_WORDS {
-        if room / categories < rows_for(span + 1) {
-            return span;
-        }
-    }
-    MOST_WORDS
+    let rows = room / categories;
+    (0..MOST_WORDS)
+        .find(|span| rows < rows_for(*span + 1))
+        .unwrap_or(MOST_WORDS)
 }
 
 // The summary of a grammar, in the entries that its span takes; the others are left as they are.
@@ -64,13 +62,14 @@ pub fn summarize<'a, S: Scale>(
 {
     let categories = rules.categories;
     let span = widest(categories, memory.len());
-    fill_lengths::<S>(rules, memory, span);
-    fill_pairs::<S>(rules, memory, span);
-    Summary {
+    let mut summary = Summary {
         memory,
         categories,
         span,
-    }
+    };
+    summary.fill_lengths::<S>(rules);
+    summary.fill_pairs::<S>(rules);
+    summary
 }
 
 impl<'a, S: Scale> Bound<S> for Summary<'a, S::Cost> {
@@ -88,7 +87,7 @@ impl<'a, S: Scale> Bound<S> for Summary<'a, S::Cost> {
         if category >= self.categories || left >= self.span || right >= self.span - left {
             return None;
         }
-        let base = row_of(self.span, left, right) * self.categories;
-        read::<S>(self.memory, base + category)
+        let row = row_of(self.span, left, right);
+        row_at(self.memory, self.categories, row)[category]
     }
 }

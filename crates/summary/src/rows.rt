@@ -1,114 +1,61 @@
-// Rows of costs in one memory: a row begins at a base and has one place for each category.
-ghost use Rattle.std.specs.Prelude.{◌≡◌, ◌+◌, ◌<◌, ◌≤◌, length};
-ghost use Rattle.derivation.specs.Named.{NamedChains, NamedBinaries};
-ghost use Rattle.summary.specs.Filling.{step as stepped, Into, Fresh, ClosedRow, Joined, Joins};
+// Rows in a memory, one after another, each with one place for each category; and what the binary rules offer to a row.
+ghost use Rattle.std.specs.Prelude.{◌≡◌, ℕ, ◌+◌, ◌*◌, ◌≤◌, length};
+ghost use Rattle.derivation.specs.Named.{NamedBinaries};
+ghost use Rattle.settle.specs.Column.{Grown};
+ghost use Rattle.settle.specs.Offers.{cell, joined as joins};
+ghost use Rattle.summary.specs.Memory.{view};
+ghost use Rattle.summary.specs.Filling.{Joins};
 
-use crate::step::{Side, Sought, Step};
-use derivation::{BinaryRule, ChainRule};
+use crate::step::Sought;
+use derivation::BinaryRule;
 use scale::Scale;
-use settle::{Direction, offer, read, settle};
+use settle::Row;
 
-// How a rule is put to use for what is sought.
-fn step_of(sought: Sought, rule: BinaryRule) -> Step
-    ensures { result ≡ stepped sought rule }
+// The row with the number `i`.
+pub(crate) fn row_at<C>(rows: &[Option<C>], size: usize, i: usize) -> &[Option<C>]
+    requires { i * size + size ≤ length rows.now }
+    ensures long { length result.now ≡ size }
+    ensures row { cell result.now ≡ view size rows.now (i * size) }
 {
-    let category = usize::from(rule.category);
-    let left = usize::from(rule.left);
-    let right = usize::from(rule.right);
-    match sought {
-        Sought::Whole => Step {
-            into: category,
-            first: left,
-            second: right,
-        },
-        Sought::Gap(Side::Left) => Step {
-            into: left,
-            first: category,
-            second: right,
-        },
-        Sought::Gap(Side::Right) => Step {
-            into: right,
-            first: category,
-            second: left,
-        },
+    let base = i * size;
+    &rows[base..base + size]
+}
+
+// Empties a row.
+pub(crate) fn empty<C: Copy>(row: &mut [Option<C>])
+    ensures { (A : ℕ) → cell row.new A ≡ None }
+{
+    row.fill(None);
+}
+
+// What a rule of this weight makes of two costs.
+fn joined<S: Scale>(weight: u16, first: Option<S::Cost>, second: Option<S::Cost>) -> Option<S::Cost>
+    ensures { result ≡ joins S.scale weight first second }
+{
+    match (first, second) {
+        (Some(y), Some(z)) => Some(S::join(S::price(weight), S::join(y, z))),
+        _ => None,
     }
 }
 
-// Empties the row at a base.
-pub fn empty<S: Scale>(memory: &mut [Option<S::Cost>], size: usize, base: usize)
-    requires { base + size ≤ length memory.old }
-    ensures { Fresh S.scale size base (λ _ _. ⊥) memory.old memory.new }
-{
-    for i in 0..size {
-        memory[base + i] = None;
-    }
-}
-
-// Closes the row at a base under the chain rules.
-pub fn close<S: Scale>(
-    chains: &[ChainRule],
-    direction: Direction,
-    memory: &mut [Option<S::Cost>],
-    size: usize,
-    base: usize,
-)
-    requires room { base + size ≤ length memory.old }
-    requires few { size ≤ 64 }
-    requires named { NamedChains chains.now size }
-    ensures { ClosedRow S.scale direction chains.now size base memory.old memory.new }
-{
-    settle::<S>(chains, direction, &mut memory[base..base + size]);
-}
-
-// Offers to the row at a base what one rule makes of the rows at `one` and `two`, which stand before it.
-fn apply<S: Scale>(
-    rule: BinaryRule,
-    sought: Sought,
-    memory: &mut [Option<S::Cost>],
-    size: usize,
-    one: usize,
-    two: usize,
-    base: usize,
-)
-    requires room { base + size ≤ length memory.old }
-    requires first { one + size ≤ base }
-    requires second { two + size ≤ base }
-    requires named { (rule.category < size) × (rule.left < size) × (rule.right < size) }
-    ensures { Into S.scale size base (Joined S.scale sought one two memory.old rule) memory.old memory.new }
-{
-    let step = step_of(sought, rule);
-    let first = read::<S>(memory, one + step.first);
-    let Some(y) = first else {
-        return;
-    };
-    let second = read::<S>(memory, two + step.second);
-    let Some(z) = second else {
-        return;
-    };
-    offer::<S>(
-        memory,
-        base + step.into,
-        S::join(S::price(rule.weight), S::join(y, z)),
-    );
-}
-
-// Offers to the row at a base what the rules make of the rows at `one` and `two`, which stand before it.
-pub fn combine<S: Scale>(
+// Offers to a row what the rules make of two others.
+pub(crate) fn combine<S: Scale, R: Row<S>>(
     binaries: &[BinaryRule],
     sought: Sought,
-    memory: &mut [Option<S::Cost>],
-    size: usize,
-    one: usize,
-    two: usize,
-    base: usize,
+    first: &[Option<S::Cost>],
+    second: &[Option<S::Cost>],
+    row: &mut R,
 )
-    requires room { base + size ≤ length memory.old }
-    requires first { one + size ≤ base }
-    requires second { two + size ≤ base }
-    requires named { NamedBinaries binaries.now size }
-    ensures { Into S.scale size base (Joins S.scale sought binaries.now one two memory.old) memory.old memory.new }
+    requires first { R.size row.old ≤ length first.now }
+    requires second { R.size row.old ≤ length second.now }
+    requires named { NamedBinaries binaries.now (R.size row.old) }
+    ensures beside { R.beside row.old row.new }
+    ensures grown { Grown S.scale (R.enters row.old) (Joins S.scale sought binaries.now (cell first.now) (cell second.now)) (R.costs row.old) (R.costs row.new) }
 {
     for rule in binaries {
-        apply::<S>(*rule, sought, memory, size, one, two, base);
+        let step = sought.step(*rule);
+        if let Some(cost) = joined::<S>(rule.weight, first[step.first], second[step.second]) {
+            row.offer(step.into, cost);
+        }
     }
 }

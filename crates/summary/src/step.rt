@@ -1,4 +1,8 @@
 // How a binary rule is put to use.
+ghost use Rattle.std.specs.Prelude.{◌≡◌};
+ghost use Rattle.summary.specs.Filling.{step as stepped, across};
+
+use derivation::BinaryRule;
 
 // The side of a rule on which the gap stands.
 #[derive(Clone, Copy)]
@@ -20,4 +24,44 @@ pub struct Step {
     pub into: usize,
     pub first: usize,
     pub second: usize,
+}
+
+impl Side {
+    // How many words stand across from a gap.
+    pub(crate) fn across(self, left: usize, right: usize) -> usize
+        ensures { result ≡ across self left right }
+    {
+        match self {
+            Side::Left => right,
+            Side::Right => left,
+        }
+    }
+}
+
+impl Sought {
+    // How a rule is put to use for what is sought.
+    pub(crate) fn step(self, rule: BinaryRule) -> Step
+        ensures { result ≡ stepped self rule }
+    {
+        let category = usize::from(rule.category);
+        let left = usize::from(rule.left);
+        let right = usize::from(rule.right);
+        match self {
+            Sought::Whole => Step {
+                into: category,
+                first: left,
+                second: right,
+            },
+            Sought::Gap(Side::Left) => Step {
+                into: left,
+                first: category,
+                second: right,
+            },
+            Sought::Gap(Side::Right) => Step {
+                into: right,
+                first: category,
+                second: left,
+            },
+        }
+    }
 }

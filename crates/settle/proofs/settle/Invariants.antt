@@ -1,10 +1,12 @@
-use Rattle.std.proofs.Common.{◌≡◌, length}
-use Rattle.settle.specs.Offers.{cell}
 use Rattle.settle.proofs.Going.{Going, left}
 use Rattle.settle.proofs.settle.Given as goal
 
-abbrev pub invariant-loop-found : goal.invariant-loop-found
-invariant-loop-found g l = (length l.settled ≡ 64) × Going g.S.Scale.scale l.direction l.chains (cell l.initial.row) (cell l.row) l.settled
+abbrev pub invariant-loop-least : goal.invariant-loop-least
+invariant-loop-least g l =
+    record {
+      beside : g.R.Row.beside l.initial.row l.row;
+      going : Going g.S.Scale.scale (g.R.Row.enters l.initial.row) l.direction l.chains (g.R.Row.size l.initial.row) (g.R.Row.costs l.initial.row) (g.R.Row.costs l.row) l.settled;
+    }
 
-abbrev pub decreases-loop-found : goal.decreases-loop-found
-decreases-loop-found g l = left l.settled
+abbrev pub decreases-loop-least : goal.decreases-loop-least
+decreases-loop-least g l = left l.settled

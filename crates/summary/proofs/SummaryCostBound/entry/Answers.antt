@@ -1,23 +1,19 @@
-use Rattle.std.proofs.Common.{◌≡◌, ℕ, ◌+◌, ◌*◌, ◌<◌, ◌≤◌, sym, refl, subst, arith}
-use Rattle.summary.specs.Memory.{tri, place}
+use Rattle.std.proofs.Common.{ℕ, ◌+◌, ◌*◌, ◌<◌, ◌≤◌, length, sym, refl, ap, ◌∙◌, subst, arith}
+use Rattle.summary.specs.Memory.{view}
 use Rattle.summary.proofs.Order.{place_fits}
+use Rattle.summary.proofs.Placing.{cell_read}
+use Rattle.summary.proofs.Around.{outer_at}
 use Rattle.summary.proofs.SummaryCostBound.entry.Goals as goal
 
--- the row that is read is one of the span's
-inside : (size span left right row : ℕ) → left + right < span → row ≡ place span left right → row * size + size ≤ (span + tri span) * size
-inside size span left right row short is = subst (λ (i : ℕ). i * size + size ≤ (span + tri span) * size) (sym is) (place_fits size span (left + right) left right refl short)
-
-pub overflow_mul-base : goal.overflow_mul-base
-overflow_mul-base g c =
+pub row_at-requires : goal.row_at-requires
+row_at-requires g c =
     let b = c.args.self.now in
-    omega (arith, inside b.categories b.span c.args.left c.args.right c.row_of.result (omega arith) c.row_of.ensures, b.room)
+    let fits = place_fits b.categories b.span (c.args.left + c.args.right) c.args.left c.args.right refl (omega arith) in
+    subst (λ (i : ℕ). i * b.categories + b.categories ≤ length b.memory.now) (sym c.row_of-row.ensures) (omega (arith, fits, b.room))
 
-pub overflow_add-base : goal.overflow_add-base
-overflow_add-base g c =
+pub returns-clause-value : goal.returns-clause-value
+returns-clause-value g c =
     let b = c.args.self.now in
-    omega (arith, inside b.categories b.span c.args.left c.args.right c.row_of.result (omega arith) c.row_of.ensures, b.room)
-
-pub read-requires : goal.read-requires
-read-requires g c =
-    let b = c.args.self.now in
-    omega (arith, inside b.categories b.span c.args.left c.args.right c.row_of.result (omega arith) c.row_of.ensures, b.room)
+    let inside : c.args.category < length c.row_at.result.now = omega (arith, c.row_at.ensures.long) in
+    let there = ap (λ col. col c.args.category) c.row_at.ensures.row ∙ ap (λ i. view b.categories b.memory.now (i * b.categories) c.args.category) c.row_of-row.ensures in
+    sym (cell_read c.row_at.result.now c.args.category _ inside c.index-row_at-category.is) ∙ there ∙ sym (outer_at b.categories b.span b.memory.now c.args.category c.args.left c.args.right (omega arith))
