@@ -1,16 +1,9 @@
 -- What a caller of `put` reads off `Adds`.
-use Rattle.std.proofs.Common.{◌≡◌, ℕ, Bool, true, false, ◌&&◌, ◌||◌, ◌⊎◌, sym, refl, ap, ◌∙◌, inl, inr}
+use Rattle.std.proofs.Common.{◌≡◌, ℕ, Bool, true, ◌&&◌, ◌||◌, ◌⊎◌, sym, refl, ap, ◌∙◌, inl, inr}
+use Rattle.std.proofs.Math.Bool.{or-false, and-false}
 use Rattle.std.proofs.lemmas.Bool.{or_cases, or_left, or_right, cases_Bool}
 use Rattle.chart.specs.Meaning.{Holds, same, Adds}
 use Rattle.chart.proofs.Within.{same_tells, same_from}
-
-or_false : (t : Bool) → (t || false) ≡ t
-or_false true = refl
-or_false false = refl
-
-and_false : (t : Bool) → (t && false) ≡ false
-and_false true = refl
-and_false false = refl
 
 -- what was held is held still
 pub adds_keeps : (h h' : Holds) (r : Bool) (b e a x y z : ℕ) → Adds h h' r b e a → h x y z ≡ true → h' x y z ≡ true
@@ -29,5 +22,5 @@ pub adds_other : (h h' : Holds) (r : Bool) (b e a x y z : ℕ) → Adds h h' r b
 adds_other h h' r b e a x y z ad ne =
     elim (cases_Bool (same b e a x y z)) [
       | inl s ↦ let q = same_tells b e a x y z s in absurd (ne q.0 q.1 q.2)
-      | inr f ↦ ad x y z ∙ ap (λ t. h x y z || (r && t)) f ∙ ap (λ t. h x y z || t) (and_false r) ∙ or_false (h x y z)
+      | inr f ↦ ad x y z ∙ ap (λ t. h x y z || (r && t)) f ∙ ap (λ t. h x y z || t) (and-false r) ∙ or-false (h x y z)
     ]

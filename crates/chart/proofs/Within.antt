@@ -1,5 +1,6 @@
 -- The tests `inside` and `same` and the facts that they tell; what a chart holds of what is marked.
-use Rattle.std.proofs.Common.{◌≡◌, ℕ, Bool, true, false, ◌&&◌, ◌||◌, eqb, ltb, leb, sym, refl, ap, ◌∙◌, inl, inr}
+use Rattle.std.proofs.Common.{◌≡◌, ℕ, true, false, ◌&&◌, ◌||◌, eqb, ltb, leb, sym, ap, ◌∙◌, inl, inr}
+use Rattle.std.proofs.Math.Bool.{or-false, or-true}
 use Rattle.std.proofs.lemmas.Bool.{and_parts, and_from, le-leb, lt-ltb, eqb-true, eq-eqb, both_ways, cases_Bool}
 pub use Rattle.chart.specs.Facts.{inside_tells, limited_bounded}
 use Rattle.chart.specs.Meaning.{Inside, inside, same, limited, Adds, Empty, Holds}
@@ -27,14 +28,6 @@ pub same_from : (b e a x y z : ℕ) → x ≡ b → y ≡ e → z ≡ a → same
 same_from b e a x y z p q r =
     and_from (eqb x b) (eqb y e && eqb z a) (eq-eqb x b p) (and_from (eqb y e) (eqb z a) (eq-eqb y e q) (eq-eqb z a r))
 
-pub or_false : (t : Bool) → (t || false) ≡ t
-or_false true = refl
-or_false false = refl
-
-or_true : (t : Bool) → (t || true) ≡ true
-or_true true = refl
-or_true false = refl
-
 -- inside, what is held is what is marked; outside, nothing is held
 pub limited_inside : (n g : ℕ) (marked : Holds) (b e a : ℕ) → Inside n g b e a → limited n g marked b e a ≡ marked b e a
 unfolding limited
@@ -61,11 +54,11 @@ module _ (n g : ℕ) (old new : Holds) (b e a : ℕ) (here : Inside n g b e a �
         | inl s ↦
             let q = same_tells b e a x y z s in
             let held : limited n g new x y z ≡ true = simp (q.0, q.1, q.2) (limited_inside n g new b e a i ∙ here i) in
-            held ∙ sym (or_true (limited n g old x y z)) ∙ ap (λ t. limited n g old x y z || t) (sym s)
+            held ∙ sym (or-true (limited n g old x y z)) ∙ ap (λ t. limited n g old x y z || t) (sym s)
         | inr s ↦
             let kept : limited n g new x y z ≡ limited n g old x y z = elim (cases_Bool (inside n g x y z)) [
               | inl t ↦ let j = inside_tells n g x y z t in limited_inside n g new x y z j ∙ others x y z j s ∙ sym (limited_inside n g old x y z j)
               | inr f ↦ limited_outside n g new x y z f ∙ sym (limited_outside n g old x y z f)
             ] in
-            kept ∙ sym (or_false (limited n g old x y z)) ∙ ap (λ t. limited n g old x y z || t) (sym s)
+            kept ∙ sym (or-false (limited n g old x y z)) ∙ ap (λ t. limited n g old x y z || t) (sym s)
       ]

@@ -6,19 +6,15 @@ ghost use Rattle.chart.specs.Facts.{limited_bounded};
 ghost use Rattle.chart.specs.Bytes.{bytes_for, place, marked, held};
 
 use crate::cells::{cell_of, cells_of};
-use crate::meaning::{Chart, admits, takes};
+use crate::extent::Extent;
+use crate::meaning::Chart;
 use crate::{MOST_CATEGORIES, MOST_WORDS};
 
 #[derive(Drop)]
 pub struct ByteChart<'a> {
     bytes: &'a mut [u8],
-    capacity: usize,
-    words: usize,
-    categories: usize,
-    ghost most: { capacity ≤ most_words },
-    ghost fits: { bytes_for capacity ≤ length bytes.now },
-    ghost within: { words ≤ capacity },
-    ghost kinds: { categories ≤ most_categories },
+    extent: Extent,
+    ghost fits: { bytes_for extent.capacity ≤ length bytes.now },
 }
 
 // How many bytes n words take.
@@ -44,48 +40,45 @@ fn place_of(b: usize, e: usize, a: usize) -> usize
 pub fn most_words(bytes: usize) -> usize
     ensures { Greatest bytes_for bytes result }
 {
-    for n in 0..MOST_WORDS {
-        if bytes < bytes_for(n + 1) {
-            return n;
-        }
-    }
-    MOST_WORDS
+    (0..MOST_WORDS)
+        .find(|&n| bytes < bytes_for(n + 1))
+        .unwrap_or(MOST_WORDS)
 }
 
 impl<'a> ByteChart<'a> {
     // A chart with no words, no categories and the empty set, whatever the bytes hold.
     pub fn new(bytes: &'a mut [u8]) -> ByteChart<'a>
-        ensures room { Greatest bytes_for (length bytes.old) result.capacity }
-        ensures words { result.words ≡ 0 }
-        ensures categories { result.categories ≡ 0 }
-        ensures empty { Empty (held result.bytes.now result.words result.categories) }
+        ensures room { Greatest bytes_for (length bytes.old) result.extent.capacity }
+        ensures words { result.extent.words ≡ 0 }
+        ensures categories { result.extent.categories ≡ 0 }
+        ensures empty { Empty (held result.bytes.now result.extent.words result.extent.categories) }
     {
         let capacity = most_words(bytes.len());
         ByteChart {
             bytes,
-            capacity,
-            words: 0,
-            categories: 0,
+            extent: Extent {
+                capacity,
+                words: 0,
+                categories: 0,
+            },
         }
     }
 }
 
 impl Chart for ByteChart<'_> {
-    ghost seen = { λ c. record { room = c.capacity; words = c.words; categories = c.categories; holds = held c.bytes.now c.words c.categories } };
+    ghost seen = { λ c. record { room = c.extent.capacity; words = c.extent.words; categories = c.extent.categories; holds = held c.bytes.now c.extent.words c.extent.categories } };
 
-    ghost sound = { record { most = λ c. c.most; within = λ c. c.within; kinds = λ c. c.kinds; bounded = λ c. limited_bounded c.words c.categories (marked c.bytes.now) } };
+    ghost sound = { record { most = λ c. c.extent.most; within = λ c. c.extent.within; kinds = λ c. c.extent.kinds; bounded = λ c. limited_bounded c.extent.words c.extent.categories (marked c.bytes.now) } };
 
     fn capacity(&self) -> usize {
-        self.capacity
+        self.extent.capacity
     }
 
     fn start(&mut self, n: usize, g: usize) -> bool {
-        if admits(self.capacity, n, g) {
-            for i in 0..bytes_for(n) {
-                self.bytes[i] = 0;
-            }
-            self.words = n;
-            self.categories = g;
+        if self.extent.admits(n, g) {
+            self.bytes[..bytes_for(n)].fill(0);
+            self.extent.words = n;
+            self.extent.categories = g;
             true
         } else {
             false
@@ -93,7 +86,7 @@ impl Chart for ByteChart<'_> {
     }
 
     fn put(&mut self, b: usize, e: usize, a: usize) -> bool {
-        if takes(self.words, self.categories, b, e, a) {
+        if self.extent.takes(b, e, a) {
             self.bytes[place_of(b, e, a)] = 1;
             true
         } else {
@@ -102,15 +95,10 @@ impl Chart for ByteChart<'_> {
     }
 
     fn has(&self, b: usize, e: usize, a: usize) -> bool {
-        takes(self.words, self.categories, b, e, a) && self.bytes[place_of(b, e, a)] == 1
+        self.extent.takes(b, e, a) && self.bytes[place_of(b, e, a)] == 1
     }
 
     fn split(&self, p: usize, q: usize, b: usize, e: usize) -> Option<usize> {
-        for m in b..e {
-            if self.has(b, m, p) && self.has(m + 1, e, q) {
-                return Some(m);
-            }
-        }
-        None
+        (b..e).find(|&m| self.has(b, m, p) && self.has(m + 1, e, q))
     }
 }

@@ -13,7 +13,7 @@ pub fn cell_of(b: usize, e: usize) -> usize
     ensures number { result ≡ cell b e }
     ensures closed { result ≡ e * (e - 1) / 2 + b - 1 }
 {
-    CELLS[e - 1][b - 1] as usize
+    usize::from(CELLS[e - 1][b - 1])
 }
 
 // How many cells n words have.

@@ -3,6 +3,7 @@
 
 pub mod bytes;
 pub mod cells;
+pub mod extent;
 pub mod meaning;
 mod square;
 #[cfg(test)]
@@ -10,6 +11,7 @@ mod tests;
 
 pub use bytes::ByteChart;
 pub use cells::{cell_of, cells_of};
+pub use extent::Extent;
 pub use meaning::Chart;
 
 // The most words that any chart takes.

@@ -1,5 +1,6 @@
 -- What a row of vectors marks: after one constituent is marked twice, after all are cleared, and at the lowest split.
 use Rattle.std.proofs.Common.{◌≡◌, ℕ, ◌+◌, ◌*◌, ◌%◌, ◌^◌, ◌<◌, ◌≤◌, Bool, true, false, ◌&&◌, ◌||◌, eqb, List, length, get_or, set, sym, refl, ap, ◌∙◌, ap₂, inl, inr, arith, length-set, get_or-set_other, get_or-set_same}
+use Rattle.std.proofs.Math.Bool.{or-false, and_assoc, and_comm}
 use lib.Bits.{bit_or}
 use lib.Count.{count_trailing_zeros}
 use Rattle.std.proofs.lemmas.Nat.{one_shl}
@@ -7,7 +8,7 @@ use Rattle.std.proofs.lemmas.Bool.{cases_eq, eq-eqb, ne_eqb, and_parts, and_from
 use Rattle.std.proofs.lemmas.Bool.Decides.{nat_tests}
 use Rattle.chart.specs.Limits.{most_categories}
 use Rattle.chart.specs.Meaning.{Inside, same, Adds, Empty, Splits}
-use Rattle.chart.proofs.Within.{same_from, or_false, limited_bounded, limited_empty, limited_adds}
+use Rattle.chart.proofs.Within.{same_from, limited_bounded, limited_empty, limited_adds}
 use Rattle.vectors.specs.Bit.{bit}
 use Rattle.vectors.specs.Vectors.{vectors_for, vector, by_start, by_end, held, Spot, Starts, Ends}
 use Rattle.vectors.proofs.Digits.{bit-none, bit-or, bit-power, common, bit-common, trailing_low, trailing_at}
@@ -33,23 +34,11 @@ mark_at w vectors i e j y wide h =
           ∙ ap₂ (λ k t. bit y (get_or vectors k 0) || (t && eqb y e)) (sym p) (sym (eq-eqb j i p))
       | inr n ↦
           ap (bit y) (get_or-set_other vectors i j new 0 n)
-          ∙ sym (or_false (bit y (get_or vectors j 0))) ∙ ap (λ t. bit y (get_or vectors j 0) || (t && eqb y e)) (sym (ne_eqb j i n))
+          ∙ sym (or-false (bit y (get_or vectors j 0))) ∙ ap (λ t. bit y (get_or vectors j 0) || (t && eqb y e)) (sym (ne_eqb j i n))
     ]
 
 regroup : (p q r : Bool) → ((p && q) && r) ≡ (p && (r && q))
-regroup true true true = refl
-regroup true true false = refl
-regroup true false true = refl
-regroup true false false = refl
-regroup false q r = refl
-
-regroup_last : (p q r : Bool) → ((p && q) && r) ≡ (r && (p && q))
-regroup_last true true true = refl
-regroup_last true true false = refl
-regroup_last true false true = refl
-regroup_last true false false = refl
-regroup_last false q true = refl
-regroup_last false q false = refl
+regroup p q r = and_assoc p q r ∙ ap (λ t. p && t) (and_comm q r)
 
 -- (b, e, a) marked twice in vectors of w bits, in the vector j by its start and in k by its end
 module _ (w : ℕ) (vectors : List ℕ) (n g b e a j k : ℕ) (wide : n < w) (small : g ≤ most_categories) (fits : vectors_for n ≤ length vectors)
@@ -78,7 +67,7 @@ module _ (w : ℕ) (vectors : List ℕ) (n g b e a j k : ℕ) (wide : n < w) (sm
       let here : eqb (vector v z) j ≡ (eqb v b && eqb z a) = ap (eqb (vector v z)) j-is ∙ apart b a v z i.first s.first (omega (arith, i.kind)) (omega (arith, s.known)) in
       let elsewhere : eqb (vector v z) k ≡ false = ne_eqb (vector v z) k (omega (arith, i.first, i.order, s.last, s.known)) in
       mark_at w (mark w vectors j e) k b (vector v z) y b_small end_fits
-      ∙ ap (λ t. by_start (mark w vectors j e) v y z || (t && eqb y b)) elsewhere ∙ or_false (by_start (mark w vectors j e) v y z)
+      ∙ ap (λ t. by_start (mark w vectors j e) v y z || (t && eqb y b)) elsewhere ∙ or-false (by_start (mark w vectors j e) v y z)
       ∙ mark_at w vectors j e (vector v z) y e_small start_fits ∙ ap (λ t. old || (t && eqb y e)) here
       ∙ ap (λ t. old || t) (regroup (eqb v b) (eqb z a) (eqb y e))
 
@@ -96,9 +85,9 @@ module _ (w : ℕ) (vectors : List ℕ) (n g b e a j k : ℕ) (wide : n < w) (sm
       let elsewhere : eqb (vector (n + v) z) j ≡ false = ne_eqb (vector (n + v) z) j (omega (arith, i.order, i.last, i.kind, s.first)) in
       mark_at w (mark w vectors j e) k b (vector (n + v) z) x b_small end_fits
       ∙ ap₂ (λ t u. t || (u && eqb x b))
-      (mark_at w vectors j e (vector (n + v) z) x e_small start_fits ∙ ap (λ t. old || (t && eqb x e)) elsewhere ∙ or_false old)
+      (mark_at w vectors j e (vector (n + v) z) x e_small start_fits ∙ ap (λ t. old || (t && eqb x e)) elsewhere ∙ or-false old)
       here
-      ∙ ap (λ t. old || t) (regroup_last (eqb v e) (eqb z a) (eqb x b))
+      ∙ ap (λ t. old || t) (and_comm (eqb v e && eqb z a) (eqb x b))
 
   spot : (x y z : ℕ) → Inside n g x y z → Spot n g
   spot x y z at = record { word = x; other = y; kind = z; first = at.first; last = omega (arith, at.order, at.last); known = at.kind }
@@ -108,7 +97,7 @@ module _ (w : ℕ) (vectors : List ℕ) (n g b e a j k : ℕ) (wide : n < w) (sm
   marks_adds =
       limited_adds n g (by_start vectors) (by_start marks) b e a
       (λ _. (starts_at (spot b e a i) ∙ or_right (by_start vectors b e a) (same b e a b e a) (same_from b e a b e a refl refl refl)))
-      (λ x y z at s. starts_at (spot x y z at) ∙ ap (λ t. by_start vectors x y z || t) s ∙ or_false (by_start vectors x y z))
+      (λ x y z at s. starts_at (spot x y z at) ∙ ap (λ t. by_start vectors x y z || t) s ∙ or-false (by_start vectors x y z))
       i
 
   pub marks_starts : Starts vectors n g → Starts marks n g

@@ -7,22 +7,16 @@ ghost use Rattle.chart.specs.Limits.{most_words, most_categories, Greatest};
 ghost use Rattle.chart.specs.Meaning.{Empty};
 ghost use Rattle.vectors.specs.Vectors.{vectors_for, vector, by_start, held, Starts, Ends};
 
-use chart::meaning::{admits, takes};
-use chart::{Chart, MOST_CATEGORIES, MOST_WORDS};
+use chart::{Chart, Extent, MOST_CATEGORIES, MOST_WORDS};
 
 #[derive(Drop)]
 pub struct VectorChart<'a> {
     // A row of vectors for each word by start, then one for each word by end; a vector of a row for each category.
     vectors: &'a mut [u64],
-    capacity: usize,
-    words: usize,
-    categories: usize,
-    ghost most: { capacity ≤ most_words },
-    ghost fits: { vectors_for capacity ≤ length vectors.now },
-    ghost within: { words ≤ capacity },
-    ghost kinds: { categories ≤ most_categories },
-    ghost starts: { Starts vectors.now words categories },
-    ghost ends: { Ends vectors.now words categories },
+    extent: Extent,
+    ghost fits: { vectors_for extent.capacity ≤ length vectors.now },
+    ghost starts: { Starts vectors.now extent.words extent.categories },
+    ghost ends: { Ends vectors.now extent.words extent.categories },
 }
 
 // The vector of a row and a category.
@@ -45,39 +39,39 @@ pub fn most_words(vectors: usize) -> usize
 impl<'a> VectorChart<'a> {
     // A chart with no words, no categories and the empty set, whatever the vectors hold.
     pub fn new(vectors: &'a mut [u64]) -> VectorChart<'a>
-        ensures room { Greatest vectors_for (length vectors.old) result.capacity }
-        ensures words { result.words ≡ 0 }
-        ensures categories { result.categories ≡ 0 }
-        ensures empty { Empty (held result.vectors.now result.words result.categories) }
+        ensures room { Greatest vectors_for (length vectors.old) result.extent.capacity }
+        ensures words { result.extent.words ≡ 0 }
+        ensures categories { result.extent.categories ≡ 0 }
+        ensures empty { Empty (held result.vectors.now result.extent.words result.extent.categories) }
     {
         let capacity = most_words(vectors.len());
         VectorChart {
             vectors,
-            capacity,
-            words: 0,
-            categories: 0,
+            extent: Extent {
+                capacity,
+                words: 0,
+                categories: 0,
+            },
         }
     }
 }
 
 impl Chart for VectorChart<'_> {
-    ghost seen = { λ c. record { room = c.capacity; words = c.words; categories = c.categories; holds = held c.vectors.now c.words c.categories } };
+    ghost seen = { λ c. record { room = c.extent.capacity; words = c.extent.words; categories = c.extent.categories; holds = held c.vectors.now c.extent.words c.extent.categories } };
 
-    ghost sound = { record { most = λ c. c.most; within = λ c. c.within; kinds = λ c. c.kinds; bounded = λ c. limited_bounded c.words c.categories (by_start c.vectors.now) } };
+    ghost sound = { record { most = λ c. c.extent.most; within = λ c. c.extent.within; kinds = λ c. c.extent.kinds; bounded = λ c. limited_bounded c.extent.words c.extent.categories (by_start c.vectors.now) } };
 
     fn capacity(&self) -> usize {
-        self.capacity
+        self.extent.capacity
     }
 
     fn start(&mut self, n: usize, g: usize) -> bool {
-        if admits(self.capacity, n, g) {
+        if self.extent.admits(n, g) {
             // While the vectors change, the chart is one of no words, whose vectors need not agree.
-            self.words = 0;
-            for i in 0..2 * MOST_CATEGORIES * n {
-                self.vectors[i] = 0;
-            }
-            self.words = n;
-            self.categories = g;
+            self.extent.words = 0;
+            self.vectors[..2 * MOST_CATEGORIES * n].fill(0);
+            self.extent.words = n;
+            self.extent.categories = g;
             true
         } else {
             false
@@ -85,15 +79,15 @@ impl Chart for VectorChart<'_> {
     }
 
     fn put(&mut self, b: usize, e: usize, a: usize) -> bool {
-        if takes(self.words, self.categories, b, e, a) {
-            let n = self.words;
+        if self.extent.takes(b, e, a) {
+            let n = self.extent.words;
             let by_start = vector_of(b, a);
             let by_end = vector_of(n + e, a);
             // As in `start`, no words while only one of the two bits is set.
-            self.words = 0;
+            self.extent.words = 0;
             self.vectors[by_start] |= 1 << e;
             self.vectors[by_end] |= 1 << b;
-            self.words = n;
+            self.extent.words = n;
             true
         } else {
             false
@@ -101,13 +95,13 @@ impl Chart for VectorChart<'_> {
     }
 
     fn has(&self, b: usize, e: usize, a: usize) -> bool {
-        takes(self.words, self.categories, b, e, a) && (self.vectors[vector_of(b, a)] >> e) & 1 == 1
+        self.extent.takes(b, e, a) && (self.vectors[vector_of(b, a)] >> e) & 1 == 1
     }
 
     fn split(&self, p: usize, q: usize, b: usize, e: usize) -> Option<usize> {
-        if takes(self.words, self.categories, b, e, p) && q < self.categories {
+        if self.extent.takes(b, e, p) && q < self.extent.categories {
             let lasts = self.vectors[vector_of(b, p)];
-            let firsts = self.vectors[vector_of(self.words + e, q)];
+            let firsts = self.vectors[vector_of(self.extent.words + e, q)];
             let m = (lasts & (firsts >> 1)).trailing_zeros();
             if m < u64::BITS {
                 return Some(m as usize);

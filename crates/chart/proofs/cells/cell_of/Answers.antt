@@ -8,5 +8,5 @@ unfolding square tri
 returns c =
     let b = c.args.b in
     let e = c.args.e in
-    let r = entry b e c.requires.first c.requires.order c.requires.last in
+    let r = c.from.ensures ∙ entry b e c.requires.first c.requires.order c.requires.last in
     record { number = r; closed = r ∙ cell_closed b e c.requires.first c.requires.order }

@@ -12,10 +12,10 @@ returns-then-takes c =
     let s = c.args.self.now in
     let i = c.takes.ensures.fact c.if-takes.true in
     bit-read c.args.e (get_or s.vectors.now c.vector_of.result 0) ∙ ap (λ k. bit c.args.e (get_or s.vectors.now k 0)) c.vector_of.ensures
-    ∙ sym (limited_inside s.words s.categories (by_start s.vectors.now) c.args.b c.args.e c.args.a i)
+    ∙ sym (limited_inside s.extent.words s.extent.categories (by_start s.vectors.now) c.args.b c.args.e c.args.a i)
 
 pub returns-else-takes : goal.returns-else-takes
 returns-else-takes c =
     let s = c.args.self.now in
-    let out : inside s.words s.categories c.args.b c.args.e c.args.a ≡ false = cc in
-    c.if-takes.false ∙ sym (limited_outside s.words s.categories (by_start s.vectors.now) c.args.b c.args.e c.args.a out)
+    let out : inside s.extent.words s.extent.categories c.args.b c.args.e c.args.a ≡ false = cc in
+    c.if-takes.false ∙ sym (limited_outside s.extent.words s.extent.categories (by_start s.vectors.now) c.args.b c.args.e c.args.a out)

@@ -8,7 +8,7 @@ pub bounds-self-place_of : goal.bounds-self-place_of
 bounds-self-place_of c =
     let s = c.args.self.now in
     let i = c.takes.ensures.fact c.if-takes.true in
-    omega (arith, place_below s.words s.categories s.capacity c.args.b c.args.e c.args.a s.kinds s.within i, s.fits, c.place_of.ensures)
+    omega (arith, place_below s.extent.words s.extent.categories s.extent.capacity c.args.b c.args.e c.args.a s.extent.kinds s.extent.within i, s.fits, c.place_of.ensures)
 
 pub returns-then-takes : goal.returns-then-takes
 returns-then-takes c =
@@ -17,12 +17,12 @@ returns-then-takes c =
     let e = c.args.e in
     let a = c.args.a in
     let i = c.takes.ensures.fact c.if-takes.true in
-    let fits : place b e a < length s.bytes.now = omega (arith, place_below s.words s.categories s.capacity b e a s.kinds s.within i, s.fits) in
-    let P : ℕ → Type 0 = λ k. Adds (held s.bytes.now s.words s.categories) (held (set s.bytes.now k 1) s.words s.categories) true b e a in
+    let fits : place b e a < length s.bytes.now = omega (arith, place_below s.extent.words s.extent.categories s.extent.capacity b e a s.extent.kinds s.extent.within i, s.fits) in
+    let P : ℕ → Type 0 = λ k. Adds (held s.bytes.now s.extent.words s.extent.categories) (held (set s.bytes.now k 1) s.extent.words s.extent.categories) true b e a in
     record {
       told = cc;
       room = refl;
       words = refl;
       categories = refl;
-      adds = subst P (sym c.place_of.ensures) (set_adds s.bytes.now s.words s.categories b e a s.kinds fits i);
+      adds = subst P (sym c.place_of.ensures) (set_adds s.bytes.now s.extent.words s.extent.categories b e a s.extent.kinds fits i);
     }
