@@ -1,5 +1,3 @@
 pub mod Cells
 pub mod Meets
-pub mod Picking
-pub mod Settling
-pub mod Sources
+pub mod Filled

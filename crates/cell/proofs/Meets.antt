@@ -1,21 +1,22 @@
 -- One split more, and one rule more: what the binary rules offer.
-use Rattle.std.proofs.Common.{◌≡◌, ℕ, ◌+◌, ◌<◌, ◌≤◌, ◌⊎◌, List, length, get_or, Some, None, Option, sym, refl, ap, ◌∙◌, subst, inl, inr, arith}
+use Rattle.std.proofs.Common.{◌≡◌, ℕ, ◌+◌, ◌<◌, ◌≤◌, ◌⊎◌, List, Some, None, Option, sym, refl, ap, ◌∙◌, subst, inl, inr, arith}
+use Rattle.std.specs.Borrow.{Bor}
 use native.Mathlib.Decide.{ℕ_discrete}
 use Rattle.derivation.specs.declared.rules.BinaryRule.{BinaryRule}
-use Rattle.derivation.specs.Named.{At}
 use Rattle.derivation.specs.Scale.{Scale}
 use Rattle.derivation.specs.Table.{Table}
+use Rattle.chart.specs.declared.meaning.Chart as chart
+use Rattle.scale.specs.declared.Scale as scale
 use Rattle.chart.specs.Meaning.{Seen, Splits}
 use Rattle.table.specs.Memory.{view}
-use Rattle.table.proofs.Growing.{rule_same, at_read, none_some, some_same}
+use Rattle.derivation.proofs.Reading.{none_some, some_same}
 use Rattle.table.proofs.Views.{view_held}
-use Rattle.cell.specs.Cell.{joined, Meet, Pair}
-
--- the parts of what is joined
-pub parts : {Cost : Type 0} (s : Scale Cost) (w : ℕ) (o p : Option Cost) (c : Cost) → joined s w o p ≡ Some c → (x y : Cost) × (o ≡ Some x) × (p ≡ Some y) × (c ≡ s.join (s.price w) (s.join x y))
-parts s w None p c is = absurd (none_some refl is)
-parts s w (Some x) None c is = absurd (none_some refl is)
-parts s w (Some x) (Some y) c is = (x, y, refl, refl, some_same is refl)
+use Rattle.cell.specs.declared.task.Task.{Task}
+use Rattle.cell.specs.declared.cell.Cell.{Cell}
+use Rattle.settle.specs.Offers.{joined}
+use Rattle.settle.proofs.Growing.{parts}
+use Rattle.cell.specs.Cell.{Meet}
+use Rattle.cell.specs.Open.{costs_in, Beside}
 
 module _ {Cost : Type 0} {s : Scale Cost} {rule : BinaryRule} {v : Table Cost} {b e : ℕ} where
   pub meet_up : (m A : ℕ) (c : Cost) → Meet s rule v b e m A c → Meet s rule v b e (m + 1) A c
@@ -40,30 +41,28 @@ meet_splits {s = s} {rule} {b} {e} {c = c} d g chart costs most h =
     let (x, y, at_x, at_y, _) = parts s rule.weight (view d g chart costs rule.left b m) (view d g chart costs rule.right (m + 1) e) c h.costs in
     (h.low, omega arith, (view_held d g chart costs rule.left b m x at_x).0, (view_held d g chart costs rule.right (m + 1) e y at_y).0)
 
--- only the cells of the parts matter
-pub meet_moved : {Cost : Type 0} {s : Scale Cost} {rule : BinaryRule} {v : Table Cost} (v' : Table Cost) {b e k : ℕ} → k ≤ e → ((B x y : ℕ) → (x ≡ b → y ≡ e → ⊥) → v' B x y ≡ v B x y) → (A : ℕ) (c : Cost) → Meet s rule v b e k A c → Meet s rule v' b e k A c
-meet_moved {s = s} {rule} {v} v' {b} {e} most same A c h =
-    let m = h.middle in
-    let low = h.low in
-    let high = h.high in
-    let first : v' rule.left b m ≡ v rule.left b m = same rule.left b m (λ _ q. omega arith) in
-    let second : v' rule.right (m + 1) e ≡ v rule.right (m + 1) e = same rule.right (m + 1) e (λ q _. omega arith) in
-    record { middle = m; low = low; high = high; makes = h.makes; costs = ap (λ o. joined s rule.weight o (v' rule.right (m + 1) e)) first ∙ ap (λ o. joined s rule.weight (v rule.left b m) o) second ∙ h.costs }
+module _ {S C B Cost : Type 0} {met : scale.Ghosts S Cost} {over : chart.Ghosts C} where
+  -- offers to a cell change no other
+  pub costs_kept : (before after : Cell S C B Cost met over) → Beside before after → (A x y : ℕ) → (x ≡ before.b → y ≡ before.e → ⊥) → costs_in after A x y ≡ costs_in before A x y
+  costs_kept before after kept A x y other =
+      ap (λ (task : Bor (Task Cost B)). view met.scale.neutral task.now.rules.now.categories (over.seen after.chart.now) after.costs.now A x y) kept.task ∙ kept.framed.elsewhere A x y other
 
-module _ {Cost : Type 0} {s : Scale Cost} {rules : List BinaryRule} {v : Table Cost} {b e : ℕ} where
-  pub pair_none : (A : ℕ) (c : Cost) → Pair s rules v b e 0 A c → ⊥
-  pair_none A c h = let l = h.below in omega arith
+  pub joined_kept : (rule : BinaryRule) (m : ℕ) (before after : Cell S C B Cost met over) → Beside before after → before.b ≤ m → m < before.e → joined met.scale rule.weight (costs_in after rule.left after.b m) (costs_in after rule.right (m + 1) after.e) ≡ joined met.scale rule.weight (costs_in before rule.left before.b m) (costs_in before rule.right (m + 1) before.e)
+  joined_kept rule m before after kept low high =
+      let first : costs_in after rule.left after.b m ≡ costs_in before rule.left before.b m = ap (λ b. costs_in after rule.left b m) kept.first ∙ costs_kept before after kept rule.left before.b m (λ _ q. omega arith) in
+      let second : costs_in after rule.right (m + 1) after.e ≡ costs_in before rule.right (m + 1) before.e = ap (λ e. costs_in after rule.right (m + 1) e) kept.last ∙ costs_kept before after kept rule.right (m + 1) before.e (λ q _. omega arith) in
+      ap (λ o. joined met.scale rule.weight o (costs_in after rule.right (m + 1) after.e)) first ∙ ap (λ o. joined met.scale rule.weight (costs_in before rule.left before.b m) o) second
 
-  pub pair_up : (j A : ℕ) (c : Cost) → Pair s rules v b e j A c → Pair s rules v b e (j + 1) A c
-  pair_up j A c h = let l = h.below in record { place = h.place; rule = h.rule; below = omega arith; at = h.at; meet = h.meet }
+  module _ (rule : BinaryRule) (before after : Cell S C B Cost met over) (kept : Beside before after) where
+    pub meet_then : (A : ℕ) (c : Cost) → Meet met.scale rule (costs_in before) before.b before.e before.e A c → Meet met.scale rule (costs_in after) after.b after.e after.e A c
+    meet_then A c h =
+        let k = h.high in
+        let low : after.b ≤ h.middle = rw kept.first h.low in
+        let high : h.middle < after.e = rw kept.last h.high in
+        record { middle = h.middle; low = low; high = high; makes = h.makes; costs = joined_kept rule h.middle before after kept h.low h.high ∙ h.costs }
 
-  pub pair_here : (j : ℕ) (d : BinaryRule) → j < length rules → (A : ℕ) (c : Cost) → Meet s (get_or rules j d) v b e e A c → Pair s rules v b e (j + 1) A c
-  pair_here j d inside A c m = record { place = j; rule = get_or rules j d; below = omega arith; at = at_read rules j d inside; meet = m }
-
-  pub pair_cases : (j : ℕ) (d : BinaryRule) (A : ℕ) (c : Cost) → Pair s rules v b e (j + 1) A c → Pair s rules v b e j A c ⊎ Meet s (get_or rules j d) v b e e A c
-  pair_cases j d A c h =
-      let l = h.below in
-      elim (ℕ_discrete h.place j) [
-        | yes q ↦ inr (subst (λ r. Meet s r v b e e A c) (rule_same j h.rule d (subst (λ n. At rules n h.rule) q h.at)) h.meet)
-        | no ne ↦ inl (record { place = h.place; rule = h.rule; below = omega arith; at = h.at; meet = h.meet })
-      ]
+    pub meet_back : (A : ℕ) (c : Cost) → Meet met.scale rule (costs_in after) after.b after.e after.e A c → Meet met.scale rule (costs_in before) before.b before.e before.e A c
+    meet_back A c h =
+        let low : before.b ≤ h.middle = rw (sym kept.first) h.low in
+        let high : h.middle < before.e = rw (sym kept.last) h.high in
+        record { middle = h.middle; low = low; high = high; makes = h.makes; costs = sym (joined_kept rule h.middle before after kept low high) ∙ h.costs }

@@ -9,18 +9,13 @@ use Rattle.derivation.specs.Scale.{Scale}
 use Rattle.derivation.specs.Bounds.{Entries}
 use Rattle.derivation.specs.Table.{Table, ClosedAt}
 use Rattle.bound.specs.Gate.{Open}
+use Rattle.settle.specs.Offers.{By, joined}
 use Rattle.cell.specs.Rules.{Leaf}
 
 -- a rule gives A to the one word from b to e
 pub record Single {Cost : Type 0} (s : Scale Cost) (rules : List WordRule) (ws : List ℕ) (b e A : ℕ) (c : Cost) : Type 0 where
   pub alone : b ≡ e
   pub leaf : Leaf s rules (slice_index ws (b - 1)) (length rules) A c
-
--- what a rule of a weight makes of two parts
-abbrev pub joined : {Cost : Type 0} → Scale Cost → ℕ → Option Cost → Option Cost → Option Cost
-joined s w None o = None
-joined s w (Some x) None = None
-joined s w (Some x) (Some y) = Some (s.join (s.price w) (s.join x y))
 
 -- a rule gives A to b to e, at a split below k, at the cost c
 pub record Meet {Cost : Type 0} (s : Scale Cost) (rule : BinaryRule) (v : Table Cost) (b e k A : ℕ) (c : Cost) : Type 0 where
@@ -31,12 +26,8 @@ pub record Meet {Cost : Type 0} (s : Scale Cost) (rule : BinaryRule) (v : Table 
   pub costs : joined s rule.weight (v rule.left b middle) (v rule.right (middle + 1) e) ≡ Some c
 
 -- one of the first j rules gives A to b to e, at the cost c
-pub record Pair {Cost : Type 0} (s : Scale Cost) (rules : List BinaryRule) (v : Table Cost) (b e j A : ℕ) (c : Cost) : Type 0 where
-  pub place : ℕ
-  pub rule : BinaryRule
-  pub below : place < j
-  pub at : At rules place rule
-  pub meet : Meet s rule v b e e A c
+abbrev pub Pair : {Cost : Type 0} → Scale Cost → List BinaryRule → Table Cost → ℕ → ℕ → ℕ → ℕ → Cost → Type 0
+Pair s rules v b e j = By rules j (λ rule. Meet s rule v b e e)
 
 -- what the rules make over b to e of the costs that v has for shorter stretches, where ok says what may stay
 pub data Made {Cost : Type 0} (s : Scale Cost) (g : Grammar) (ok : ℕ → Cost → Type 0) (ws : List ℕ) (v : Table Cost) (b e : ℕ) : ℕ → Cost → Type 0 where

@@ -1,2 +1,4 @@
 pub mod Rules
 pub mod Cell
+pub mod Open
+pub mod Laws

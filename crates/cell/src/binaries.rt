@@ -1,96 +1,63 @@
 // What the binary rules offer to a cell, of the costs of shorter stretches.
 ghost use Rattle.std.specs.Prelude.{◌≡◌, ℕ, ◌+◌, ◌<◌, ◌≤◌, length};
-ghost use Rattle.derivation.specs.Named.{NamedBinaries};
-ghost use Rattle.chart.specs.Meaning.{Splits};
-ghost use Rattle.bound.specs.Gate.{Open};
-ghost use Rattle.table.specs.Column.{Grown};
-ghost use Rattle.table.specs.Memory.{view, column, Ready, Placed, Framed};
-ghost use Rattle.cell.specs.Cell.{joined, Meet, Pair};
+ghost use Rattle.chart.specs.Meaning.{Splits, Lowest};
+ghost use Rattle.settle.specs.Column.{Grown};
+ghost use Rattle.settle.specs.Offers.{joined};
+ghost use Rattle.cell.specs.Cell.{Meet, Pair};
+ghost use Rattle.cell.specs.Open.{costs_in, held_in, column_of, open_to, binaries_of, Beside};
 
-use crate::gate::Gate;
-use crate::offers::offer;
+use crate::cell::Cell;
 use bound::Bound;
 use chart::Chart;
 use derivation::BinaryRule;
 use scale::Scale;
-use table::known;
+use settle::Row;
 
-// What a rule makes of its parts over b to m and m + 1 to e.
-fn paired<S: Scale, C: Chart>(
-    rule: BinaryRule,
-    chart: &C,
-    costs: &[S::Cost],
-    kinds: usize,
-    b: usize,
-    m: usize,
-    e: usize,
-) -> Option<S::Cost>
-    requires ready { Ready kinds (C.seen chart.now) (length costs.now) }
-    requires inner { m < e }
-    ensures { result ≡ joined S.scale rule.weight (view S.scale.neutral kinds (C.seen chart.now) costs.now rule.left b m) (view S.scale.neutral kinds (C.seen chart.now) costs.now rule.right (m + 1) e) }
-{
-    let Some(x) = known::<S, C>(chart, costs, kinds, b, m, rule.left as usize) else {
-        return None;
-    };
-    let Some(y) = known::<S, C>(chart, costs, kinds, m + 1, e, rule.right as usize) else {
-        return None;
-    };
-    Some(S::join(S::price(rule.weight), S::join(x, y)))
-}
+impl<S: Scale, C: Chart, B: Bound<S>> Cell<'_, '_, S, C, B> {
+    // The lowest split at which the parts of a rule meet.
+    fn lowest(&self, rule: BinaryRule) -> Option<usize>
+        ensures { Lowest (held_in self.now) rule.left rule.right self.now.b self.now.e result }
+    {
+        let left = usize::from(rule.left);
+        let right = usize::from(rule.right);
+        self.table().split(left, right, self.b, self.e)
+    }
 
-// Offers what one rule makes at every split, where none is below `from`.
-fn meets<S: Scale, C: Chart, B: Bound<S>>(
-    rule: BinaryRule,
-    from: usize,
-    chart: &mut C,
-    costs: &mut [S::Cost],
-    kinds: usize,
-    b: usize,
-    e: usize,
-    gate: &Gate<'_, S::Cost, B>,
-)
-    requires placed { Placed kinds b e (C.seen chart.old) (length costs.old) }
-    requires low { b ≤ from }
-    requires high { from < e }
-    requires lowest { (k : ℕ) → k < from → Splits (C.seen chart.old).holds rule.left rule.right b e k → ⊥ }
-    requires kind { rule.category < kinds }
-    ensures framed { Framed S.scale.neutral kinds b e (C.seen chart.old) costs.old (C.seen chart.new) costs.new }
-    ensures grown { Grown S.scale (Open S.scale gate.now.ceiling (B.limit gate.now.bound.now) gate.now.left gate.now.right) (Meet S.scale rule (view S.scale.neutral kinds (C.seen chart.old) costs.old) b e e) (column S.scale.neutral kinds b e (C.seen chart.old) costs.old) (column S.scale.neutral kinds b e (C.seen chart.new) costs.new) }
-{
-    for m in from..e {
-        if let Some(cost) = paired::<S, C>(rule, chart, costs, kinds, b, m, e) {
-            offer::<S, C, B>(
-                chart,
-                costs,
-                kinds,
-                b,
-                e,
-                gate,
-                rule.category as usize,
-                cost,
-            );
+    // What a rule makes of its parts over b to m and m + 1 to e.
+    fn paired(&self, rule: BinaryRule, m: usize) -> Option<S::Cost>
+        requires { m < self.now.e }
+        ensures { result ≡ joined S.scale rule.weight (costs_in self.now rule.left self.now.b m) (costs_in self.now rule.right (m + 1) self.now.e) }
+    {
+        let x = self.table().known(self.b, m, usize::from(rule.left))?;
+        let y = self.table().known(m + 1, self.e, usize::from(rule.right))?;
+        Some(S::join(S::price(rule.weight), S::join(x, y)))
+    }
+
+    // Offers what one rule makes at every split, where none is below `from`.
+    fn meets(&mut self, rule: BinaryRule, from: usize)
+        requires low { self.old.b ≤ from }
+        requires high { from < self.old.e }
+        requires lowest { (k : ℕ) → k < from → Splits (held_in self.old) rule.left rule.right self.old.b self.old.e k → ⊥ }
+        requires kind { rule.category < self.old.task.now.rules.now.categories }
+        ensures beside { Beside self.old self.new }
+        ensures grown { Grown S.scale (open_to B.limit self.old) (Meet S.scale rule (costs_in self.old) self.old.b self.old.e self.old.e) (column_of self.old) (column_of self.new) }
+    {
+        for m in from..self.e {
+            if let Some(cost) = self.paired(rule, m) {
+                self.offer(usize::from(rule.category), cost);
+            }
         }
     }
-}
 
-// Offers what every rule makes: one whose parts meet nowhere is passed over at the cost of one question.
-pub fn pairs<S: Scale, C: Chart, B: Bound<S>>(
-    rules: &[BinaryRule],
-    chart: &mut C,
-    costs: &mut [S::Cost],
-    kinds: usize,
-    b: usize,
-    e: usize,
-    gate: &Gate<'_, S::Cost, B>,
-)
-    requires placed { Placed kinds b e (C.seen chart.old) (length costs.old) }
-    requires named { NamedBinaries rules.now kinds }
-    ensures framed { Framed S.scale.neutral kinds b e (C.seen chart.old) costs.old (C.seen chart.new) costs.new }
-    ensures grown { Grown S.scale (Open S.scale gate.now.ceiling (B.limit gate.now.bound.now) gate.now.left gate.now.right) (Pair S.scale rules.now (view S.scale.neutral kinds (C.seen chart.old) costs.old) b e (length rules.now)) (column S.scale.neutral kinds b e (C.seen chart.old) costs.old) (column S.scale.neutral kinds b e (C.seen chart.new) costs.new) }
-{
-    for rule in rules {
-        if let Some(from) = chart.split(rule.left as usize, rule.right as usize, b, e) {
-            meets::<S, C, B>(*rule, from, chart, costs, kinds, b, e, gate);
+    // Offers what every rule makes: one whose parts meet nowhere is passed over at the cost of one question.
+    pub fn pairs(&mut self)
+        ensures beside { Beside self.old self.new }
+        ensures grown { Grown S.scale (open_to B.limit self.old) (Pair S.scale (binaries_of self.old) (costs_in self.old) self.old.b self.old.e (length (binaries_of self.old))) (column_of self.old) (column_of self.new) }
+    {
+        for rule in &self.task.rules.binaries {
+            if let Some(from) = self.lowest(*rule) {
+                self.meets(*rule, from);
+            }
         }
     }
 }

@@ -2,10 +2,12 @@
 #![tactic(auto)]
 
 mod binaries;
+mod cell;
 mod chains;
-mod gate;
 mod offers;
+mod task;
 mod whole;
 mod words;
 
+pub use task::Task;
 pub use whole::fill;

@@ -1,81 +1,37 @@
 // What the word rules offer to the cell of one word.
-ghost use Rattle.std.specs.Prelude.{◌≡◌, ℕ, ◌<◌, ◌≤◌, length};
-ghost use Rattle.derivation.specs.Named.{NamedWords};
-ghost use Rattle.bound.specs.Gate.{Open};
-ghost use Rattle.table.specs.Column.{Grown};
-ghost use Rattle.table.specs.Memory.{column, Placed, Framed};
+ghost use Rattle.std.specs.Prelude.{◌≡◌, length};
+ghost use Rattle.settle.specs.Column.{Grown};
 ghost use Rattle.cell.specs.Rules.{Leaf};
 ghost use Rattle.cell.specs.Cell.{Single};
+ghost use Rattle.cell.specs.Open.{column_of, open_to, lexical_of, text_of, Beside};
 
-use crate::gate::Gate;
-use crate::offers::offer;
+use crate::cell::Cell;
 use bound::Bound;
 use chart::Chart;
-use derivation::WordRule;
 use scale::Scale;
+use settle::Row;
 
-// Offers what the rules of a word give.
-fn leaves<S: Scale, C: Chart, B: Bound<S>>(
-    rules: &[WordRule],
-    vocabulary: usize,
-    word: u16,
-    chart: &mut C,
-    costs: &mut [S::Cost],
-    kinds: usize,
-    b: usize,
-    e: usize,
-    gate: &Gate<'_, S::Cost, B>,
-)
-    requires placed { Placed kinds b e (C.seen chart.old) (length costs.old) }
-    requires named { NamedWords rules.now kinds vocabulary }
-    ensures framed { Framed S.scale.neutral kinds b e (C.seen chart.old) costs.old (C.seen chart.new) costs.new }
-    ensures grown { Grown S.scale (Open S.scale gate.now.ceiling (B.limit gate.now.bound.now) gate.now.left gate.now.right) (Leaf S.scale rules.now word (length rules.now)) (column S.scale.neutral kinds b e (C.seen chart.old) costs.old) (column S.scale.neutral kinds b e (C.seen chart.new) costs.new) }
-{
-    for rule in rules {
-        if rule.word == word {
-            offer::<S, C, B>(
-                chart,
-                costs,
-                kinds,
-                b,
-                e,
-                gate,
-                rule.category as usize,
-                S::price(rule.weight),
-            );
+impl<S: Scale, C: Chart, B: Bound<S>> Cell<'_, '_, S, C, B> {
+    // Offers what the rules of a word give.
+    fn leaves(&mut self, word: u16)
+        ensures beside { Beside self.old self.new }
+        ensures grown { Grown S.scale (open_to B.limit self.old) (Leaf S.scale (lexical_of self.old) word (length (lexical_of self.old))) (column_of self.old) (column_of self.new) }
+    {
+        for rule in &self.task.rules.lexical {
+            if rule.word == word {
+                self.offer(usize::from(rule.category), S::price(rule.weight));
+            }
         }
     }
-}
 
-// Offers what the word rules give, where there is one word only.
-pub fn single<S: Scale, C: Chart, B: Bound<S>>(
-    rules: &[WordRule],
-    vocabulary: usize,
-    text: &[u16],
-    chart: &mut C,
-    costs: &mut [S::Cost],
-    kinds: usize,
-    b: usize,
-    e: usize,
-    gate: &Gate<'_, S::Cost, B>,
-)
-    requires placed { Placed kinds b e (C.seen chart.old) (length costs.old) }
-    requires covered { e ≤ length text.now }
-    requires named { NamedWords rules.now kinds vocabulary }
-    ensures framed { Framed S.scale.neutral kinds b e (C.seen chart.old) costs.old (C.seen chart.new) costs.new }
-    ensures grown { Grown S.scale (Open S.scale gate.now.ceiling (B.limit gate.now.bound.now) gate.now.left gate.now.right) (Single S.scale rules.now text.now b e) (column S.scale.neutral kinds b e (C.seen chart.old) costs.old) (column S.scale.neutral kinds b e (C.seen chart.new) costs.new) }
-{
-    if b == e {
-        leaves::<S, C, B>(
-            rules,
-            vocabulary,
-            text[b - 1],
-            chart,
-            costs,
-            kinds,
-            b,
-            e,
-            gate,
-        );
+    // Offers what the word rules give, where there is one word only.
+    pub fn single(&mut self)
+        ensures beside { Beside self.old self.new }
+        ensures grown { Grown S.scale (open_to B.limit self.old) (Single S.scale (lexical_of self.old) (text_of self.old) self.old.b self.old.e) (column_of self.old) (column_of self.new) }
+    {
+        if self.b == self.e {
+            let text = self.task.text;
+            self.leaves(text[self.left]);
+        }
     }
 }

@@ -1,4 +1,5 @@
 pub mod Builds
+pub mod Columns
 pub mod Counts
 pub mod Ends
 pub mod Listing

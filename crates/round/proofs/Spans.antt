@@ -5,7 +5,7 @@ use Rattle.derivation.specs.Grammar.{Grammar}
 use Rattle.derivation.specs.Scale.{Scale, Within}
 use Rattle.derivation.specs.Bounds.{Entries, Filled}
 use Rattle.derivation.specs.Table.{Table, ClosedAt, Closed}
-use Rattle.table.proofs.Growing.{none_some}
+use Rattle.derivation.proofs.Reading.{none_some}
 use Rattle.cell.specs.Cell.{Closes}
 use Rattle.round.specs.Filling.{Late, Sofar}
 use Rattle.round.proofs.Builds.{Found, build}

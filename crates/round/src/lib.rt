@@ -13,7 +13,7 @@ ghost use Rattle.round.specs.Recogniser.{RecogniserChart};
 ghost use Rattle.round.specs.Round.{Round};
 
 use bound::{Bound, Floor};
-use cell::fill;
+use cell::{Task, fill};
 use chart::{Chart, cells_of};
 use derivation::Rules;
 use scale::Scale;
@@ -23,63 +23,51 @@ use table::clear;
 fn count<C: Chart>(chart: &C, kinds: usize, b: usize, e: usize) -> usize
     ensures { result ≡ tally (C.seen chart.now).holds b e kinds }
 {
-    let mut held = 0;
-    for a in 0..kinds {
-        if chart.has(b, e, a) {
-            held += 1;
-        }
-    }
-    held
+    (0..kinds).filter(|a| chart.has(b, e, *a)).count()
 }
 
 // Fills the cells that end at e, shorter stretches first, and counts what they hold.
 fn fill_ending<S: Scale, C: Chart, B: Bound<S>>(
-    rules: &Rules,
-    text: &[u16],
-    bound: &B,
-    ceiling: Option<S::Cost>,
+    task: &Task<'_, S::Cost, B>,
     chart: &mut C,
     costs: &mut [S::Cost],
     e: usize,
 ) -> usize
-    requires fitted { Fitted (length text.now) rules.now.categories (C.seen chart.old) (length costs.old) }
-    requires last { e ≤ length text.now }
-    requires sofar { Sofar S.scale (grammar rules.now) (B.limit bound.now) ceiling text.now (view S.scale.neutral rules.now.categories (C.seen chart.old) costs.old) e 0 }
-    ensures spread { Spread S.scale.neutral rules.now.categories e (C.seen chart.old) costs.old (C.seen chart.new) costs.new }
-    ensures sofar { Sofar S.scale (grammar rules.now) (B.limit bound.now) ceiling text.now (view S.scale.neutral rules.now.categories (C.seen chart.new) costs.new) e e }
-    ensures number { result ≡ ending (C.seen chart.new).holds rules.now.categories e e }
+    requires fitted { Fitted (length task.now.text.now) task.now.rules.now.categories (C.seen chart.old) (length costs.old) }
+    requires last { e ≤ length task.now.text.now }
+    requires sofar { Sofar S.scale (grammar task.now.rules.now) (B.limit task.now.bound.now) task.now.ceiling task.now.text.now (view S.scale.neutral task.now.rules.now.categories (C.seen chart.old) costs.old) e 0 }
+    ensures spread { Spread S.scale.neutral task.now.rules.now.categories e (C.seen chart.old) costs.old (C.seen chart.new) costs.new }
+    ensures sofar { Sofar S.scale (grammar task.now.rules.now) (B.limit task.now.bound.now) task.now.ceiling task.now.text.now (view S.scale.neutral task.now.rules.now.categories (C.seen chart.new) costs.new) e e }
+    ensures number { result ≡ ending (C.seen chart.new).holds task.now.rules.now.categories e e }
 {
     let mut held = 0;
-    for back in 0..e {
-        fill::<S, C, B>(rules, text, bound, ceiling, chart, costs, e - back, e);
-        held += count::<C>(chart, rules.categories, e - back, e);
+    for b in (1..=e).rev() {
+        fill::<S, C, B>(task, chart, costs, b, e);
+        held += count(chart, task.rules.categories, b, e);
     }
     held
 }
 
 // One round over the words of a text: answers the number of constituents that are kept.
 pub fn round<S: Scale, C: Chart, B: Bound<S>>(
-    rules: &Rules,
-    text: &[u16],
-    bound: &B,
-    ceiling: Option<S::Cost>,
+    task: &Task<'_, S::Cost, B>,
     chart: &mut C,
     costs: &mut [S::Cost],
 ) -> usize
-    requires roomy { length text.now ≤ (C.seen chart.old).room }
-    requires long { tri (length text.now) * rules.now.categories ≤ length costs.old }
+    requires roomy { length task.now.text.now ≤ (C.seen chart.old).room }
+    requires long { tri (length task.now.text.now) * task.now.rules.now.categories ≤ length costs.old }
     ensures room { (C.seen chart.new).room ≡ (C.seen chart.old).room }
-    ensures round { Round S.scale (grammar rules.now) (B.limit bound.now) ceiling text.now costs.old (C.seen chart.new) costs.new }
-    ensures count { result ≡ number (C.seen chart.new).holds rules.now.categories (length text.now) }
-    ensures number { KeptNumber S.scale (grammar rules.now) (B.limit bound.now) ceiling text.now result }
+    ensures round { Round S.scale (grammar task.now.rules.now) (B.limit task.now.bound.now) task.now.ceiling task.now.text.now costs.old (C.seen chart.new) costs.new }
+    ensures count { result ≡ number (C.seen chart.new).holds task.now.rules.now.categories (length task.now.text.now) }
+    ensures number { KeptNumber S.scale (grammar task.now.rules.now) (B.limit task.now.bound.now) task.now.ceiling task.now.text.now result }
 {
-    let n = text.len();
-    let kinds = rules.categories;
-    let _ = chart.start(n, kinds);
+    let n = task.text.len();
+    let kinds = task.rules.categories;
+    chart.start(n, kinds);
     clear::<S>(costs, cells_of(n) * kinds);
     let mut held = 0;
-    for e in 1..n + 1 {
-        held += fill_ending::<S, C, B>(rules, text, bound, ceiling, chart, costs, e);
+    for e in 1..=n {
+        held += fill_ending::<S, C, B>(task, chart, costs, e);
     }
     held
 }
@@ -98,5 +86,11 @@ pub fn recognise<S: Scale, C: Chart>(
     ensures round { Round S.scale (grammar rules.now) (λ _ left right. floor_entry S.scale left right) None text.now costs.old (C.seen chart.new) costs.new }
     ensures number { KeptNumber S.scale (grammar rules.now) (λ _ left right. floor_entry S.scale left right) None text.now result }
 {
-    round::<S, C, Floor>(rules, text, &Floor, None, chart, costs)
+    let task = Task {
+        rules,
+        text,
+        bound: &Floor,
+        ceiling: None,
+    };
+    round::<S, C, Floor>(&task, chart, costs)
 }

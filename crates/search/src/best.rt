@@ -9,7 +9,7 @@ use bound::Bound;
 use chart::Chart;
 use derivation::Rules;
 use scale::Scale;
-use table::known;
+use table::Table;
 use tree::{Node, extract};
 
 // A tree that was found: its cost, the number of rounds before the last, how many constituents the last one kept, and how many nodes were written.
@@ -38,17 +38,11 @@ pub fn best<S: Scale, C: Chart, B: Bound<S>>(
     ensures best { Best S.scale (grammar rules.now) (B.limit bound.now) ladder.now text.now costs.old (C.seen chart.new) costs.new nodes.old nodes.new result }
 {
     let last = climb::<S, C, B>(rules, text, bound, ladder, chart, costs)?;
-    let Some(cost) = known::<S, C>(
-        chart,
-        costs,
-        rules.categories,
-        1,
-        text.len(),
-        rules.top as usize,
-    ) else {
+    let table = Table::<S, C>::over(chart, costs, rules.categories);
+    let Some(cost) = table.known(1, text.len(), usize::from(rules.top)) else {
         unreachable()
     };
-    let nodes = extract::<S, C>(rules, text, chart, costs, nodes);
+    let nodes = extract(rules, text, &table, nodes);
     Some(Tree {
         cost,
         rung: last.rung,

@@ -1,15 +1,12 @@
 -- What the steps of a search do to the table.
-use Rattle.std.proofs.Common.{◌≡◌, ℕ, ◌+◌, ◌*◌, ◌<◌, ◌≤◌, true, false, cond, List, length, get_or, set, Some, None, sym, refl, ap, ◌∙◌, subst, inl, inr, ⊎_elim, arith, get_or-set_other, get_or-set_same}
+use Rattle.std.proofs.Common.{◌≡◌, ℕ, ◌<◌, true, false, cond, List, length, get_or, set, Some, None, sym, refl, ap, ◌∙◌, subst, inl, inr, ⊎_elim, arith, get_or-set_other, get_or-set_same}
 use native.Mathlib.Decide.{ℕ_discrete}
 use Rattle.std.proofs.lemmas.Bool.{cases_Bool}
-use Rattle.derivation.specs.Scale.{Scale, Lawful}
-use Rattle.chart.specs.Meaning.{Seen, Inside, Adds}
-use Rattle.chart.specs.Triangle.{tri}
+use Rattle.chart.specs.Meaning.{Seen, Sound, Inside, Adds}
 use Rattle.chart.proofs.Adding.{adds_keeps, adds_new, adds_other}
-use Rattle.table.specs.Column.{cheaper, Offered}
-use Rattle.table.specs.Memory.{slot, view, column, Moved, Alike, Stored, Ready, Cleared, Placed, Framed}
-use Rattle.table.proofs.Growing.{none_some, some_same, offered_set}
-use Rattle.table.proofs.Slots.{slot_apart}
+use Rattle.table.specs.Memory.{slot, view, Moved, Alike, Stored, Ready, Placed, Framed}
+use Rattle.derivation.proofs.Reading.{none_some, some_same}
+use Rattle.table.proofs.Slots.{slot_below, slot_apart}
 
 pub alike_none : (chart : Seen) → Alike chart chart
 alike_none chart = record { room = refl; words = refl; categories = refl }
@@ -17,15 +14,17 @@ alike_none chart = record { room = refl; words = refl; categories = refl }
 pub alike_then : {one two three : Seen} → Alike one two → Alike two three → Alike one three
 alike_then first then = record { room = then.room ∙ first.room; words = then.words ∙ first.words; categories = then.categories ∙ first.categories }
 
-pub ready_alike : {g long long' : ℕ} {before after : Seen} → Ready g before long → Alike before after → long' ≡ long → Ready g after long'
-ready_alike {g} {long} {long'} {before} {after} ready alike is = record {
-  same = alike.categories ∙ ready.same;
-  fits = subst (λ (n : ℕ). tri n * g ≤ long') (sym alike.words) (subst (λ (n : ℕ). tri before.words * g ≤ n) (sym is) ready.fits);
-}
-
 -- a constituent that a ready chart holds has its place among the costs
 pub held_inside : {g long : ℕ} {chart : Seen} → Ready g chart long → {b e A : ℕ} → Inside chart.words chart.categories b e A → Inside chart.words g b e A
 held_inside {chart = chart} ready {b} {e} {A} i = subst (λ k. Inside chart.words k b e A) ready.same i
+
+pub below_costs : {C : Type 0} {seen : C → Seen} (sound : Sound seen) {g long : ℕ} {chart : C} → Ready g (seen chart) long → {b e A : ℕ} → (seen chart).holds b e A ≡ true → slot g b e A < long
+below_costs sound {g} {long} {chart} ready {b} {e} {A} held =
+    omega (arith, slot_below _ _ _ _ _ (held_inside ready (sound.bounded chart b e A held)), ready.fits)
+
+-- what is stored over a stretch has its place
+pub inside_placed : {g long b e A : ℕ} {chart : Seen} → Placed g b e chart long → A < g → Inside chart.words g b e A
+inside_placed placed kind = record { first = placed.first; order = placed.order; last = placed.last; kind = kind }
 
 module _ {Cost : Type 0} (d : Cost) (g : ℕ) where
   pub view_true : (chart : Seen) (costs : List Cost) (A b e : ℕ) → chart.holds b e A ≡ true → view d g chart costs A b e ≡ Some (get_or costs (slot g b e A) d)
@@ -98,30 +97,3 @@ module _ {Cost : Type 0} (d : Cost) (g : ℕ) where
       elsewhere = λ B x y ne. then.elsewhere B x y ne ∙ first.elsewhere B x y ne;
       moved = moved_then one.words first.moved (subst (λ n. Moved d n g two costs' three costs'') first.alike.words then.moved);
     }
-
-    -- what is stored in a cell changes nothing else
-    pub framed_store : {before after : Seen} {costs costs' : List Cost} {A : ℕ} {cost : Cost} → Stored d g b e A cost before costs after costs' → Framed d g b e before costs after costs'
-    framed_store st = record { alike = st.alike; elsewhere = λ B x y ne. st.elsewhere B x y (λ _ u w. ne u w); moved = st.moved }
-
-    pub placed_then : {before after : Seen} {costs costs' : List Cost} {long long' : ℕ} → Placed g b e before long → Framed d g b e before costs after costs' → long' ≡ long → Placed g b e after long'
-    placed_then {before} {after} {long' = long'} placed framed is =
-        record {
-          ready = ready_alike placed.ready framed.alike is;
-          first = placed.first;
-          order = placed.order;
-          last = subst (λ (n : ℕ). e ≤ n) (sym framed.alike.words) placed.last;
-        }
-
--- a cost that is stored was offered
-pub offered_store : {Cost : Type 0} {s : Scale Cost} (lawful : Lawful s) {ok : ℕ → Cost → Type 0} {d : Cost} {g b e A : ℕ} {before after : Seen} {costs costs' : List Cost} {cost : Cost} → cheaper s (view d g before costs A b e) cost ≡ true → ok A cost → Stored d g b e A cost before costs after costs' → Offered s ok (column d g b e before costs) (column d g b e after costs') A cost
-offered_store lawful {d = d} {g = g} {b = b} {e = e} {A = A} {before = before} {after = after} {costs = costs} {costs' = costs'} {cost = cost} cheap fine st =
-    offered_set lawful (column d g b e before costs) (column d g b e after costs') A cost cheap fine st.here (λ k ne. st.elsewhere k b e (λ q _ _. ne q))
-
-pub cleared_none : {Cost : Type 0} (d : Cost) (costs : List Cost) → Cleared d 0 costs costs
-cleared_none d costs = record { first = λ k l. absurd (omega arith); rest = λ k _. refl }
-
-pub cleared_more : {Cost : Type 0} (d : Cost) (i : ℕ) {costs costs' : List Cost} → i < length costs' → Cleared d i costs costs' → Cleared d (i + 1) costs (set costs' i d)
-cleared_more d i {costs} {costs'} inside c = record {
-  first = λ k l. elim (ℕ_discrete k i) [ yes q ↦ subst (λ m. get_or (set costs' i d) m d ≡ d) (sym q) (get_or-set_same costs' i d d inside) | no ne ↦ get_or-set_other costs' i k d d ne ∙ c.first k (omega arith) ];
-  rest = λ k l. get_or-set_other costs' i k d d (omega arith) ∙ c.rest k (omega arith);
-}

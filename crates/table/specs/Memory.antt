@@ -3,7 +3,7 @@ use Rattle.std.specs.Prelude.{◌≡◌, ℕ, ◌+◌, ◌*◌, ◌<◌, ◌≤�
 use Rattle.derivation.specs.Table.{Table}
 use Rattle.chart.specs.Meaning.{Seen, Inside}
 use Rattle.chart.specs.Triangle.{tri, cell}
-use Rattle.table.specs.Column.{Column}
+use Rattle.settle.specs.Column.{Column}
 
 -- the place of the cost of A over b to e, where there are g categories
 abbrev pub slot : ℕ → ℕ → ℕ → ℕ → ℕ

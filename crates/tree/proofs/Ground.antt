@@ -13,7 +13,7 @@ use Rattle.derivation.specs.Table.{Table}
 use Rattle.derivation.proofs.Laws.{not_both, within_refl, above_within, above_more}
 use Rattle.derivation.proofs.Pruning.{spans, mono, grows}
 use Rattle.derivation.proofs.Table.{found, covers, admits_mono, mono₂}
-use Rattle.table.proofs.Growing.{rule_same}
+use Rattle.derivation.proofs.Reading.{at_same}
 use Rattle.tree.specs.Extracted.{Finished}
 use Rattle.tree.specs.Ways.{OfWord, OfParts, no_word, no_chain, no_binary}
 use Rattle.tree.specs.Ranks.{Grounded, by_word, by_binary, by_chain, AllGrounded}
@@ -77,14 +77,14 @@ module _ {Cost : Type 0} {s : Scale Cost} (lawful : Lawful s) {g : Grammar} {ws 
     inner : {b e : ℕ} (n : ℕ) → ((B : ℕ) (y : Cost) → v B b e ≡ Some y → cheaper b e y < n → Grounded s g ws v b e B) → {A : ℕ} (d : Derivation g ws A b e) → Passes s done.entry done.ceiling (length ws) d → v A b e ≡ Some (cost s d) → cheaper b e (cost s d) < suc n → Grounded s g ws v b e A
     inner n ih (word {k = k} {i = i} r at here) pass is few =
         let one : i + 1 - 1 ≡ i = omega arith in
-        let there : r.word ≡ get_or ws (i + 1 - 1) 0 = rw one (rule_same i r.word 0 here) in
-        let same = rule_same k r no_word at in
+        let there : r.word ≡ get_or ws (i + 1 - 1) 0 = rw one (at_same i r.word 0 here) in
+        let same = at_same k r no_word at in
         by_word is refl (at.inside, ap (λ q. q.category) (sym same), subst (λ q. OfWord s (get_or ws (i + 1 - 1) 0) (s.price r.weight) q) same (record { word = there; costs = refl }))
     inner {b} {e} n ih (binary {k = k} {m = m} r at d f) pass is few =
-        let same = rule_same k r no_binary at in
+        let same = at_same k r no_binary at in
         by_binary is (at.inside, ap (λ q. q.category) (sym same), subst (λ q. OfParts s v b e (cost s {g = g} {ws = ws} (binary r at d f)) q m) same (tight_binary r at d f pass is))
     inner {b} {e} n ih (chain {k = k} r at d) pass is few =
-        let same = rule_same k r no_chain at in
+        let same = at_same k r no_chain at in
         let p = s.price r.weight in
         let whole = s.join p (cost s d) in
         let (y, part, low, tight) = tight_chain r at d pass is in

@@ -4,4 +4,3 @@ pub mod Marks
 pub mod Ranking
 pub mod Ground
 pub mod Trees
-pub mod Finishing

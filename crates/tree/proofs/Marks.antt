@@ -1,37 +1,25 @@
 -- How many numbers below n pass a test.
-use Rattle.std.proofs.Common.{◌≡◌, ℕ, zero, suc, ◌+◌, ◌<◌, ◌≤◌, Bool, true, false, refl, subst, inl, inr, arith}
-use native.Mathlib.Decide.{ℕ_discrete}
+use Rattle.std.proofs.Common.{◌≡◌, ℕ, ◌+◌, ◌<◌, ◌≤◌, Bool, true, false, cond, length, get_or, take, drop, refl, ◌∙◌, zero-add, inl, inr, arith}
+use Rattle.std.specs.List.{count_by, range_with_len}
 use Rattle.std.proofs.lemmas.Bool.{cases_Bool}
+use Rattle.std.proofs.lemmas.List.FromFn.{length-range_with_len, get_or-range_with_len}
+use Rattle.std.proofs.lemmas.List.Sums.{count_by-le-length, sum_by-take-drop, sum_by-drop_more, sum_by-le-sum_by}
 
-abbrev pub one_if : Bool → ℕ
-one_if true = 1
-one_if false = 0
-
-pub many : (ℕ → Bool) → ℕ → ℕ
-many p zero = 0
-many p (suc n) = one_if (p n) + many p n
-
-one_le : (a b : Bool) → (a ≡ true → b ≡ true) → one_if a ≤ one_if b
-one_le true b f = let q : b ≡ true = f refl in rw q (omega arith)
-one_le false b f = omega arith
+abbrev pub many : (ℕ → Bool) → ℕ → ℕ
+many p n = count_by p (range_with_len 0 n)
 
 pub many_most : (p : ℕ → Bool) (n : ℕ) → many p n ≤ n
-unfolding many
-many_most p zero = omega arith
-many_most p (suc n) = elim (cases_Bool (p n)) [ inl t ↦ rw t (omega (arith, many_most p n)) | inr f ↦ rw f (omega (arith, many_most p n)) ]
+many_most p n = omega (arith, count_by-le-length p (range_with_len 0 n), length-range_with_len 0 n)
 
-pub many_le : (p q : ℕ → Bool) (n : ℕ) → ((k : ℕ) → p k ≡ true → q k ≡ true) → many p n ≤ many q n
-unfolding many
-many_le p q zero f = omega arith
-many_le p q (suc n) f = omega (arith, many_le p q n f, one_le (p n) (q n) (f n))
-
+-- what passes p passes q, and j passes q alone
 pub many_less : (p q : ℕ → Bool) (n : ℕ) → ((k : ℕ) → p k ≡ true → q k ≡ true) → (j : ℕ) → j < n → p j ≡ false → q j ≡ true → many p n < many q n
-unfolding many
-many_less p q zero f j h no-p yes-q = absurd (omega arith)
-many_less p q (suc n) f j h no-p yes-q = elim (ℕ_discrete j n) [
-  | yes e ↦
-      let a : p n ≡ false = subst (λ k. p k ≡ false) e no-p in
-      let b : q n ≡ true = subst (λ k. q k ≡ true) e yes-q in
-      rw (a, b) (omega (arith, many_le p q n f))
-  | no ne ↦ omega (arith, many_less p q n f j (omega arith) no-p yes-q, one_le (p n) (q n) (f n))
-]
+many_less p q n passes j small no-p yes-q =
+    let xs = range_with_len 0 n in
+    let f : ℕ → ℕ = λ k. cond (p k) 1 0 in
+    let g : ℕ → ℕ = λ k. cond (q k) 1 0 in
+    let less : (k : ℕ) → f k ≤ g k = λ k. elim (cases_Bool (p k)) [ inl t ↦ let u = passes k t in rw (t, u) (omega arith) | inr n ↦ rw n (omega arith) ] in
+    let inside : j < length xs = omega (arith, length-range_with_len 0 n) in
+    let here : get_or xs j 0 ≡ j = get_or-range_with_len 0 n j 0 small ∙ zero-add j in
+    let f-j : f (get_or xs j 0) ≡ 0 = rw (here, no-p) refl in
+    let g-j : g (get_or xs j 0) ≡ 1 = rw (here, yes-q) refl in
+    omega (arith, f-j, g-j, sum_by-take-drop f xs j, sum_by-take-drop g xs j, sum_by-drop_more f xs j 0 inside, sum_by-drop_more g xs j 0 inside, sum_by-le-sum_by f g (take j xs) less, sum_by-le-sum_by f g (drop (j + 1) xs) less)

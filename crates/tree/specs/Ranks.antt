@@ -1,28 +1,30 @@
--- Ranks for the categories over one stretch of words, from 1 on, 0 for none: a chain rule leads to a lower rank, so a run of them ends and never comes back.
-use Rattle.std.specs.Prelude.{◌≡◌, ℕ, ◌-◌, ◌<◌, ◌≤◌, List, length, Some, slice_index, slice_index_or}
+-- Ranks for the categories over one stretch of words, from 1 on: a chain rule leads to a lower rank, so a run of them ends and never comes back.
+use Rattle.std.specs.Prelude.{◌≡◌, ℕ, ◌-◌, ◌<◌, ◌≤◌, List, length, Some, None, Option, slice_index, slice_index_or}
+use Rattle.std.specs.Option.{ForSome}
 use Rattle.derivation.specs.Scale.{Scale}
 use Rattle.derivation.specs.Grammar.{Grammar}
 use Rattle.derivation.specs.Table.{Table}
 use Rattle.tree.specs.declared.ways.Step.{Step}
-use Rattle.tree.specs.Ways.{no_chain, ByWord, ByBinary, Way}
+use Rattle.tree.specs.Ways.{no_chain, rank, ByWord, ByBinary, Way}
 
--- no rank is above the limit, and each category that has one has a way to lower ranks only
-pub record Ranked {Cost : Type 0} (s : Scale Cost) (g : Grammar) (ws : List ℕ) (v : Table Cost) (ranks : List ℕ) (limit b e : ℕ) : Type 0 where
+-- the ranks are from 1 to the limit, and each category that has one has a way to lower ranks only
+pub record Ranked {Cost : Type 0} (s : Scale Cost) (g : Grammar) (ws : List ℕ) (v : Table Cost) (ranks : List (Option ℕ)) (limit b e : ℕ) : Type 0 where
   pub long : length ranks ≡ 64
-  pub most : (a : ℕ) → slice_index ranks a ≤ limit
-  pub ways : (a : ℕ) → 0 < slice_index ranks a → (t : Step) × Way s g ws v ranks (slice_index ranks a) b e a t
+  pub some : (a : ℕ) → ForSome (rank ranks a) (λ r. 1 ≤ r)
+  pub most : (a : ℕ) → ForSome (rank ranks a) (λ r. r ≤ limit)
+  pub ways : (a : ℕ) → ForSome (rank ranks a) (λ r. (t : Step) × Way s g ws v ranks r b e a t)
 
 -- a has no rank yet, and a way to ranks below `below` only
-pub record Markable {Cost : Type 0} (s : Scale Cost) (g : Grammar) (ws : List ℕ) (v : Table Cost) (ranks : List ℕ) (below b e a : ℕ) : Type 0 where
-  pub fresh : slice_index_or ranks a 0 ≡ 0
+pub record Markable {Cost : Type 0} (s : Scale Cost) (g : Grammar) (ws : List ℕ) (v : Table Cost) (ranks : List (Option ℕ)) (below b e a : ℕ) : Type 0 where
+  pub fresh : rank ranks a ≡ None
   pub step : Step
   pub way : Way s g ws v ranks below b e a step
 
 -- `after` is `before` with the rank `level` given to each of the first n categories that can have it
-pub record Swept {Cost : Type 0} (s : Scale Cost) (g : Grammar) (ws : List ℕ) (v : Table Cost) (before after : List ℕ) (level n b e : ℕ) : Type 0 where
+pub record Swept {Cost : Type 0} (s : Scale Cost) (g : Grammar) (ws : List ℕ) (v : Table Cost) (before after : List (Option ℕ)) (level n b e : ℕ) : Type 0 where
   pub ranked : Ranked s g ws v after level b e
-  pub same : (x : ℕ) → 0 < slice_index before x → slice_index after x ≡ slice_index before x
-  pub all : (x : ℕ) → x < n → slice_index after x ≡ 0 → Markable s g ws v before level b e x → ⊥
+  pub same : (x : ℕ) → ForSome (rank before x) (λ r. rank after x ≡ Some r)
+  pub all : (x : ℕ) → x < n → rank after x ≡ None → Markable s g ws v before level b e x → ⊥
 
 -- a constituent whose cost in the table comes from a word or a split, below chain rules each of which gives exactly the cost above it
 pub data Grounded {Cost : Type 0} (s : Scale Cost) (g : Grammar) (ws : List ℕ) (v : Table Cost) (b e : ℕ) : ℕ → Type 0 where

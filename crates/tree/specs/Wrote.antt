@@ -1,23 +1,25 @@
--- What it is to have written a tree of one constituent into a row of nodes.
-use Rattle.std.specs.Prelude.{◌≡◌, ℕ, ◌+◌, ◌-◌, ◌*◌, ◌≤◌, List, [], ◌∷◌, length, Some, slice_index, slice_set}
+-- What it is to have written a tree of one constituent into the first of a row of nodes.
+use Rattle.std.specs.Prelude.{◌≡◌, ℕ, ◌+◌, ◌-◌, ◌*◌, ◌≤◌, List, ◌++◌, length, drop, Some, Option}
 use Rattle.derivation.specs.Scale.{Scale}
 use Rattle.derivation.specs.Grammar.{Grammar}
 use Rattle.derivation.specs.Derivation.{Derivation, cost}
 use Rattle.derivation.specs.Table.{Table}
 use Rattle.tree.specs.declared.node.Node.{Node}
 use Rattle.tree.specs.Preorder.{preorder, Along, Straight}
+use Rattle.tree.specs.Ways.{rank}
 
--- the row `nodes` with xs written into it from the place `at` on
-abbrev pub written : {X : Type 0} → ℕ → List X → List X → List X
-written at [] nodes = nodes
-written at (x ∷ xs) nodes = written (at + 1) xs (slice_set nodes at x)
-
--- a tree of a over b to e at the table's cost, from the place `at` up to `next`, and nothing else; the run of chain rules on top climbs no higher than a's rank
-pub record Wrote {Cost : Type 0} (s : Scale Cost) (g : Grammar) (ws : List ℕ) (v : Table Cost) (ranks : List ℕ) (a b e at next : ℕ) (before after : List Node) : Type 0 where
+-- a tree of a over b to e at the table's cost, in the first `count` nodes, and the nodes beyond are as before
+pub record Wrote {Cost : Type 0} (s : Scale Cost) (g : Grammar) (ws : List ℕ) (v : Table Cost) (a b e count : ℕ) (before after : List Node) : Type 0 where
   pub tree : Derivation g ws a b e
   pub costs : v a b e ≡ Some (cost s tree)
-  pub nodes : after ≡ written at (preorder tree) before
-  pub count : next ≡ at + length (preorder tree)
-  pub short : length (preorder tree) ≤ 2 * ((e - b) * g.categories) + slice_index ranks a
+  pub nodes : after ≡ preorder tree ++ drop count before
+  pub all : length (preorder tree) ≡ count
   pub straight : Straight tree
-  pub low : Along (λ X. slice_index ranks X ≤ slice_index ranks a) tree
+
+-- the same, where the run of chain rules on top climbs no higher than a's rank
+pub record WroteRanked {Cost : Type 0} (s : Scale Cost) (g : Grammar) (ws : List ℕ) (v : Table Cost) (ranks : List (Option ℕ)) (a b e count : ℕ) (before after : List Node) : Type 0 where
+  pub wrote : Wrote s g ws v a b e count before after
+  pub top : ℕ
+  pub ranked : rank ranks a ≡ Some top
+  pub short : count ≤ 2 * ((e - b) * g.categories) + top
+  pub low : Along (λ X. (r : ℕ) × (rank ranks X ≡ Some r) × (r ≤ top)) wrote.tree

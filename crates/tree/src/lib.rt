@@ -3,6 +3,7 @@
 
 pub mod node;
 mod ranks;
+mod reader;
 mod ways;
 mod write;
 

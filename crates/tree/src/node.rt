@@ -5,9 +5,9 @@ ghost use Rattle.tree.specs.Kinds.{kind_number};
 // The kind of the rule that makes a constituent.
 #[derive(Clone, Copy)]
 pub enum Kind {
-    Word,
-    Chain,
-    Binary,
+    Word = 0,
+    Chain = 1,
+    Binary = 2,
 }
 
 // A constituent, and the rule that makes it, by its number among the rules of its kind.
@@ -25,10 +25,6 @@ impl Kind {
     pub fn number(self) -> u8
         ensures { result ≡ kind_number self }
     {
-        match self {
-            Kind::Word => 0,
-            Kind::Chain => 1,
-            Kind::Binary => 2,
-        }
+        self as u8
     }
 }

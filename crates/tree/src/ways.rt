@@ -1,196 +1,133 @@
 // The first way to make a constituent at exactly its cost.
-ghost use Rattle.std.specs.Prelude.{◌≡◌, ℕ, ◌<◌, ◌≤◌, length, Decides, MatchOption};
+ghost use Rattle.std.specs.Prelude.{◌≡◌, ◌<◌, ◌≤◌, Decides};
 ghost use Rattle.derivation.specs.Grammar.{grammar};
-ghost use Rattle.derivation.specs.Named.{NamedChains};
-ghost use Rattle.table.specs.Memory.{view, Ready};
-ghost use Rattle.tree.specs.Ways.{OfPart, OfParts, ByWord, ByChain, FirstPair, Way};
+ghost use Rattle.chart.specs.Meaning.{Lowest};
+ghost use Rattle.table.specs.Tables.{entries, holds};
+ghost use Rattle.tree.specs.Ways.{OfPart, OfParts, ByWord, ByChain, Finds, FirstPair, Way};
 
+use crate::ranks::Ranks;
+use crate::reader::{Reader, Span};
 use chart::Chart;
-use derivation::{BinaryRule, ChainRule, Rules, WordRule};
+use derivation::{BinaryRule, ChainRule};
 use scale::{Scale, same};
-use table::known;
 
 // A rule by its number among those of its kind, with the split of a binary rule.
 #[derive(Clone, Copy)]
 pub enum Step {
-    Word(usize),
-    Chain(usize),
-    Binary(usize, usize),
+    Word { rule: usize },
+    Chain { rule: usize },
+    Binary { rule: usize, split: usize },
 }
 
-// The first word rule that gives the cost.
-fn first_word<S: Scale>(rules: &[WordRule], word: u16, a: u8, cost: S::Cost) -> Option<usize>
-    ensures { MatchOption result ((k : ℕ) → ByWord S.scale rules.now word a cost k → ⊥) (λ k. ByWord S.scale rules.now word a cost k) }
-{
-    for (k, rule) in rules.iter().enumerate() {
-        if rule.category == a && rule.word == word {
-            if same::<S>(S::price(rule.weight), cost) {
-                return Some(k);
-            }
+impl<S: Scale, C: Chart> Reader<'_, S, C> {
+    // The cost of a constituent, if it was kept.
+    fn cost(&self, category: u8, span: Span) -> Option<S::Cost>
+        ensures { result ≡ entries self.now.table.now category span.begin span.end }
+    {
+        self.table
+            .known(span.begin, span.end, usize::from(category))
+    }
+
+    // The lowest split of which both parts were kept.
+    fn lowest_split(&self, rule: BinaryRule, span: Span) -> Option<usize>
+        ensures { Lowest (holds self.now.table.now) rule.left rule.right span.begin span.end result }
+    {
+        self.table.split(
+            usize::from(rule.left),
+            usize::from(rule.right),
+            span.begin,
+            span.end,
+        )
+    }
+
+    // The first word rule that gives the cost.
+    fn first_word(&self, word: u16, category: u8, cost: S::Cost) -> Option<usize>
+        ensures { Finds (ByWord S.scale self.now.rules.now.lexical.items word category cost) result }
+    {
+        self.rules.lexical.iter().position(|rule| {
+            rule.category == category && rule.word == word && same::<S>(S::price(rule.weight), cost)
+        })
+    }
+
+    // Whether the rule gives the cost with the words split there.
+    fn splits_at(&self, rule: BinaryRule, span: Span, cost: S::Cost, split: usize) -> bool
+        requires first { span.begin ≤ split }
+        requires last { split < span.end }
+        ensures { Decides result (OfParts S.scale (entries self.now.table.now) span.begin span.end cost rule split) }
+    {
+        if let Some(left) = self.cost(rule.left, span.left(split))
+            && let Some(right) = self.cost(rule.right, span.right(split))
+        {
+            same::<S>(S::join(S::price(rule.weight), S::join(left, right)), cost)
+        } else {
+            false
         }
     }
-    None
-}
 
-// Whether the rule gives the cost with the words split after m.
-fn splits_at<S: Scale, C: Chart>(
-    rule: BinaryRule,
-    chart: &C,
-    costs: &[S::Cost],
-    kinds: usize,
-    b: usize,
-    e: usize,
-    cost: S::Cost,
-    m: usize,
-) -> bool
-    requires first { b ≤ m }
-    requires last { m < e }
-    requires ready { Ready kinds (C.seen chart.now) (length costs.now) }
-    ensures { Decides result (OfParts S.scale (view S.scale.neutral kinds (C.seen chart.now) costs.now) b e cost rule m) }
-{
-    let Some(left) = known::<S, C>(chart, costs, kinds, b, m, rule.left as usize) else {
-        return false;
-    };
-    let Some(right) = known::<S, C>(chart, costs, kinds, m + 1, e, rule.right as usize) else {
-        return false;
-    };
-    same::<S>(S::join(S::price(rule.weight), S::join(left, right)), cost)
-}
-
-// The first pair of a rule and a split that gives the cost. The splits begin at the lowest of which the chart has both parts.
-fn first_pair<S: Scale, C: Chart>(
-    rules: &[BinaryRule],
-    chart: &C,
-    costs: &[S::Cost],
-    kinds: usize,
-    a: u8,
-    b: usize,
-    e: usize,
-    cost: S::Cost,
-) -> Option<(usize, usize)>
-    requires { Ready kinds (C.seen chart.now) (length costs.now) }
-    ensures { FirstPair S.scale (view S.scale.neutral kinds (C.seen chart.now) costs.now) rules.now b e a cost result }
-{
-    let found = 'search: {
-        for (k, rule) in rules.iter().enumerate() {
-            if rule.category == a {
-                if let Some(low) = chart.split(rule.left as usize, rule.right as usize, b, e) {
-                    for m in low..e {
-                        if splits_at::<S, C>(*rule, chart, costs, kinds, b, e, cost, m) {
-                            break 'search Some((k, m));
+    // The first pair of a rule and a split that gives the cost. The splits begin at the lowest of which the chart has both parts.
+    fn first_pair(&self, category: u8, span: Span, cost: S::Cost) -> Option<(usize, usize)>
+        ensures { FirstPair S.scale (entries self.now.table.now) self.now.rules.now.binaries.items span.begin span.end category cost result }
+    {
+        'search: {
+            for (k, rule) in self.rules.binaries.iter().enumerate() {
+                if rule.category == category
+                    && let Some(low) = self.lowest_split(*rule, span)
+                {
+                    for split in low..span.end {
+                        if self.splits_at(*rule, span, cost, split) {
+                            break 'search Some((k, split));
                         }
                     }
                 }
             }
+            None
         }
-        None
-    };
-    found
-}
-
-// Whether the rule gives the cost above a category of a rank below `below`.
-fn steps_to<S: Scale, C: Chart>(
-    rule: ChainRule,
-    chart: &C,
-    costs: &[S::Cost],
-    kinds: usize,
-    ranks: &[u8],
-    below: u8,
-    b: usize,
-    e: usize,
-    cost: S::Cost,
-) -> bool
-    requires ready { Ready kinds (C.seen chart.now) (length costs.now) }
-    requires named { rule.part < length ranks.now }
-    ensures { Decides result (OfPart S.scale (view S.scale.neutral kinds (C.seen chart.now) costs.now) ranks.now below b e cost rule) }
-{
-    let rank = ranks[rule.part as usize];
-    if rank == 0 || below <= rank {
-        return false;
     }
-    match known::<S, C>(chart, costs, kinds, b, e, rule.part as usize) {
-        None => false,
-        Some(part) => same::<S>(S::join(S::price(rule.weight), part), cost),
-    }
-}
 
-// The first chain rule that gives the cost above a category of a rank below `below`.
-fn first_chain<S: Scale, C: Chart>(
-    rules: &[ChainRule],
-    chart: &C,
-    costs: &[S::Cost],
-    kinds: usize,
-    ranks: &[u8],
-    below: u8,
-    a: u8,
-    b: usize,
-    e: usize,
-    cost: S::Cost,
-) -> Option<usize>
-    requires ready { Ready kinds (C.seen chart.now) (length costs.now) }
-    requires named { NamedChains rules.now (length ranks.now) }
-    ensures { MatchOption result ((k : ℕ) → ByChain S.scale (view S.scale.neutral kinds (C.seen chart.now) costs.now) rules.now ranks.now below b e a cost k → ⊥) (λ k. ByChain S.scale (view S.scale.neutral kinds (C.seen chart.now) costs.now) rules.now ranks.now below b e a cost k) }
-{
-    for (k, rule) in rules.iter().enumerate() {
-        if rule.category == a {
-            if steps_to::<S, C>(*rule, chart, costs, kinds, ranks, below, b, e, cost) {
-                return Some(k);
+    // Whether the rule gives the cost above a category of a rank below `below`.
+    fn steps_to(&self, rule: ChainRule, ranks: &Ranks, below: u8, span: Span, cost: S::Cost) -> bool
+        requires { rule.part < 64 }
+        ensures { Decides result (OfPart S.scale (entries self.now.table.now) ranks.now below span.begin span.end cost rule) }
+    {
+        if let Some(rank) = ranks[usize::from(rule.part)]
+            && rank < below
+            && let Some(part) = self.cost(rule.part, span)
+        {
+            same::<S>(S::join(S::price(rule.weight), part), cost)
+        } else {
+            false
+        }
+    }
+
+    // The first chain rule that gives the cost above a category of a rank below `below`.
+    fn first_chain(
+        &self,
+        ranks: &Ranks,
+        below: u8,
+        category: u8,
+        span: Span,
+        cost: S::Cost,
+    ) -> Option<usize>
+        ensures { Finds (ByChain S.scale (entries self.now.table.now) self.now.rules.now.chains.items ranks.now below span.begin span.end category cost) result }
+    {
+        self.rules.chains.iter().position(|rule| {
+            rule.category == category && self.steps_to(*rule, ranks, below, span, cost)
+        })
+    }
+
+    // The way to a constituent that the chart holds: by its word or by a split if there is one, else by a chain rule to a lower rank.
+    pub fn way(&self, ranks: &Ranks, below: u8, category: u8, span: Span) -> Option<Step>
+        ensures { Finds (Way S.scale (grammar self.now.rules.now) self.now.text.now (entries self.now.table.now) ranks.now below span.begin span.end category) result }
+    {
+        let cost = self.cost(category, span)?;
+        if span.begin == span.end {
+            if let Some(rule) = self.first_word(self.text[span.begin - 1], category, cost) {
+                return Some(Step::Word { rule });
             }
+        } else if let Some((rule, split)) = self.first_pair(category, span, cost) {
+            return Some(Step::Binary { rule, split });
         }
+        let rule = self.first_chain(ranks, below, category, span, cost)?;
+        Some(Step::Chain { rule })
     }
-    None
-}
-
-// The way to a constituent that the chart holds: by its word or by a split if there is one, else by a chain rule to a lower rank.
-pub fn way<S: Scale, C: Chart>(
-    rules: &Rules,
-    text: &[u16],
-    chart: &C,
-    costs: &[S::Cost],
-    ranks: &[u8],
-    below: u8,
-    a: u8,
-    b: usize,
-    e: usize,
-) -> Option<Step>
-    requires ready { Ready rules.now.categories (C.seen chart.now) (length costs.now) }
-    requires whole { length text.now ≡ (C.seen chart.now).words }
-    requires long { length ranks.now ≡ 64 }
-    ensures { MatchOption result ((t : Step) → Way S.scale (grammar rules.now) text.now (view S.scale.neutral rules.now.categories (C.seen chart.now) costs.now) ranks.now below b e a t → ⊥) (λ t. Way S.scale (grammar rules.now) text.now (view S.scale.neutral rules.now.categories (C.seen chart.now) costs.now) ranks.now below b e a t) }
-{
-    let kinds = rules.categories;
-    let cost = known::<S, C>(chart, costs, kinds, b, e, a as usize)?;
-    if b == e {
-        if let Some(k) = first_word::<S>(rules.lexical.as_slice(), text[b - 1], a, cost) {
-            return Some(Step::Word(k));
-        }
-    } else {
-        if let Some(found) = first_pair::<S, C>(
-            rules.binaries.as_slice(),
-            chart,
-            costs,
-            kinds,
-            a,
-            b,
-            e,
-            cost,
-        ) {
-            return Some(Step::Binary(found.0, found.1));
-        }
-    }
-    if let Some(k) = first_chain::<S, C>(
-        rules.chains.as_slice(),
-        chart,
-        costs,
-        kinds,
-        ranks,
-        below,
-        a,
-        b,
-        e,
-        cost,
-    ) {
-        return Some(Step::Chain(k));
-    }
-    None
 }

@@ -1,90 +1,80 @@
 // A cheapest tree, written as a row of nodes.
-ghost use Rattle.std.specs.Prelude.{◌≡◌, ◌+◌, ◌-◌, ◌*◌, ◌<◌, ◌≤◌, true, length, slice_index};
+ghost use Rattle.std.specs.Prelude.{◌≡◌, ℕ, ◌+◌, ◌-◌, ◌*◌, ◌<◌, ◌≤◌, true, length, IsSomeAnd};
 ghost use Rattle.derivation.specs.Grammar.{grammar};
-ghost use Rattle.table.specs.Memory.{view, Ready};
+ghost use Rattle.table.specs.Tables.{entries, holds};
 ghost use Rattle.tree.specs.Extracted.{Finished, Extracted};
 ghost use Rattle.tree.specs.Preorder.{node as as_node};
+ghost use Rattle.tree.specs.Ways.{rank};
 ghost use Rattle.tree.specs.Ranks.{Ranked, AllGrounded};
-ghost use Rattle.tree.specs.Wrote.{Wrote};
+ghost use Rattle.tree.specs.Wrote.{Wrote, WroteRanked};
 
 use crate::node::{Kind, Node};
-use crate::ranks::rank_cell;
-use crate::ways::{Step, way};
+use crate::ranks::Ranks;
+use crate::reader::{Reader, Span};
+use crate::ways::Step;
 use chart::Chart;
-use derivation::Rules;
+use derivation::{BinaryRule, Rules};
 use scale::Scale;
+use table::Table;
 
-fn node(a: u8, b: usize, e: usize, kind: Kind, k: usize) -> Node
-    requires order { b ≤ e }
-    requires last { e ≤ 40 }
-    requires few { k < 1024 }
-    ensures { result ≡ as_node a b e kind k }
+fn node(category: u8, span: Span, kind: Kind, rule: usize) -> Node
+    requires { rule < 1024 }
+    ensures { result ≡ as_node category span.begin span.end kind rule }
 {
     Node {
-        category: a,
-        begin: b as u8,
-        end: e as u8,
+        category,
+        begin: span.begin as u8,
+        end: span.end as u8,
         kind,
-        rule: k as u16,
+        rule: rule as u16,
     }
 }
 
-// The tree of an a over b to e, from the place `at` on; answers the place after it.
-fn write<S: Scale, C: Chart>(
-    rules: &Rules,
-    text: &[u16],
-    chart: &C,
-    costs: &[S::Cost],
-    ranks: &[u8],
-    a: u8,
-    b: usize,
-    e: usize,
-    nodes: &mut [Node],
-    at: usize,
-) -> usize
-    requires ready { Ready rules.now.categories (C.seen chart.now) (length costs.now) }
-    requires whole { length text.now ≡ (C.seen chart.now).words }
-    requires grounded { AllGrounded S.scale (grammar rules.now) text.now (view S.scale.neutral rules.now.categories (C.seen chart.now) costs.now) }
-    requires ranked { Ranked S.scale (grammar rules.now) text.now (view S.scale.neutral rules.now.categories (C.seen chart.now) costs.now) ranks.now rules.now.categories b e }
-    requires some { 0 < slice_index ranks.now a }
-    requires room { at + (2 * ((e - b) * rules.now.categories) + slice_index ranks.now a) ≤ length nodes.old }
-    ensures { Wrote S.scale (grammar rules.now) text.now (view S.scale.neutral rules.now.categories (C.seen chart.now) costs.now) ranks.now a b e at result nodes.old nodes.new }
-{
-    let rank = ranks[a as usize];
-    let Some(step) = way::<S, C>(rules, text, chart, costs, ranks, rank, a, b, e) else {
-        unreachable()
-    };
-    match step {
-        Step::Word(k) => {
-            nodes[at] = node(a, b, e, Kind::Word, k);
-            at + 1
-        }
-        Step::Chain(k) => {
-            nodes[at] = node(a, b, e, Kind::Chain, k);
-            let chains = rules.chains.as_slice();
-            let part = chains[k].part;
-            write::<S, C>(rules, text, chart, costs, ranks, part, b, e, nodes, at + 1)
-        }
-        Step::Binary(k, m) => {
-            nodes[at] = node(a, b, e, Kind::Binary, k);
-            let binaries = rules.binaries.as_slice();
-            let left = binaries[k].left;
-            let right = binaries[k].right;
-            let lefts = rank_cell::<S, C>(rules, text, chart, costs, left, b, m);
-            let next = write::<S, C>(rules, text, chart, costs, &lefts, left, b, m, nodes, at + 1);
-            let rights = rank_cell::<S, C>(rules, text, chart, costs, right, m + 1, e);
-            write::<S, C>(
-                rules,
-                text,
-                chart,
-                costs,
-                &rights,
-                right,
-                m + 1,
-                e,
-                nodes,
-                next,
-            )
+impl<S: Scale, C: Chart> Reader<'_, S, C> {
+    // Writes a tree of the category into the first of the nodes; answers how many it has.
+    #[cycle(write)]
+    fn write(&self, category: u8, span: Span, nodes: &mut [Node]) -> usize
+        requires grounded { AllGrounded S.scale (grammar self.now.rules.now) self.now.text.now (entries self.now.table.now) }
+        requires held { (x : S.Cost) × (entries self.now.table.now category span.begin span.end ≡ Some x) }
+        requires room { 2 * ((span.end - span.begin) * self.now.rules.now.categories) + self.now.rules.now.categories ≤ length nodes.old }
+        ensures wrote { Wrote S.scale (grammar self.now.rules.now) self.now.text.now (entries self.now.table.now) category span.begin span.end result nodes.old nodes.new }
+        ensures few { result ≤ 2 * ((span.end - span.begin) * self.now.rules.now.categories) + self.now.rules.now.categories }
+    {
+        let ranks = self.rank_cell(category, span);
+        self.write_ranked(&ranks, category, span, nodes)
+    }
+
+    // The same by the ranks of the span.
+    #[cycle(write)]
+    fn write_ranked(&self, ranks: &Ranks, category: u8, span: Span, nodes: &mut [Node]) -> usize
+        requires grounded { AllGrounded S.scale (grammar self.now.rules.now) self.now.text.now (entries self.now.table.now) }
+        requires ranked { Ranked S.scale (grammar self.now.rules.now) self.now.text.now (entries self.now.table.now) ranks.now self.now.rules.now.categories span.begin span.end }
+        requires room { IsSomeAnd (rank ranks.now category) (λ r. 2 * ((span.end - span.begin) * self.now.rules.now.categories) + r ≤ length nodes.old) }
+        ensures { WroteRanked S.scale (grammar self.now.rules.now) self.now.text.now (entries self.now.table.now) ranks.now category span.begin span.end result nodes.old nodes.new }
+    {
+        let Some(rank) = ranks[usize::from(category)] else {
+            unreachable!()
+        };
+        let Some(step) = self.way(ranks, rank, category, span) else {
+            unreachable!()
+        };
+        match step {
+            Step::Word { rule } => {
+                nodes[0] = node(category, span, Kind::Word, rule);
+                1
+            }
+            Step::Chain { rule } => {
+                nodes[0] = node(category, span, Kind::Chain, rule);
+                let part = self.rules.chains[rule].part;
+                1 + self.write_ranked(ranks, part, span, &mut nodes[1..])
+            }
+            Step::Binary { rule, split } => {
+                nodes[0] = node(category, span, Kind::Binary, rule);
+                let BinaryRule { left, right, .. } = self.rules.binaries[rule];
+                let lefts = self.write(left, span.left(split), &mut nodes[1..]);
+                let rights = self.write(right, span.right(split), &mut nodes[1 + lefts..]);
+                1 + lefts + rights
+            }
         }
     }
 }
@@ -93,18 +83,20 @@ fn write<S: Scale, C: Chart>(
 pub fn extract<S: Scale, C: Chart>(
     rules: &Rules,
     text: &[u16],
-    chart: &C,
-    costs: &[S::Cost],
+    table: &Table<'_, S, C>,
     nodes: &mut [Node],
 ) -> usize
-    requires ready { Ready rules.now.categories (C.seen chart.now) (length costs.now) }
-    requires whole { length text.now ≡ (C.seen chart.now).words }
-    requires finished { Finished S.scale (grammar rules.now) text.now (view S.scale.neutral rules.now.categories (C.seen chart.now) costs.now) }
-    requires held { (C.seen chart.now).holds 1 (length text.now) rules.now.top ≡ true }
+    requires kinds { table.now.kinds ≡ rules.now.categories }
+    requires whole { length text.now ≡ (C.seen table.now.chart.now).words }
+    requires finished { Finished S.scale (grammar rules.now) text.now (entries table.now) }
+    requires held { holds table.now 1 (length text.now) rules.now.top ≡ true }
     requires room { (2 * length text.now - 1) * rules.now.categories ≤ length nodes.old }
-    ensures { Extracted S.scale (grammar rules.now) text.now (view S.scale.neutral rules.now.categories (C.seen chart.now) costs.now) result nodes.old nodes.new }
+    ensures { Extracted S.scale (grammar rules.now) text.now (entries table.now) result nodes.old nodes.new }
 {
-    let n = text.len();
-    let ranks = rank_cell::<S, C>(rules, text, chart, costs, rules.top, 1, n);
-    write::<S, C>(rules, text, chart, costs, &ranks, rules.top, 1, n, nodes, 0)
+    let reader = Reader { rules, text, table };
+    let span = Span {
+        begin: 1,
+        end: text.len(),
+    };
+    reader.write(rules.top, span, nodes)
 }

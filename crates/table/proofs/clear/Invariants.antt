@@ -1,5 +1,5 @@
-use Rattle.table.specs.Memory.{Cleared}
+use Rattle.std.proofs.Common.{◌≡◌, ℕ, ◌<◌, get_or}
 use Rattle.table.proofs.clear.Given as goal
 
-abbrev pub invariant-loop-i : goal.invariant-loop-i
-invariant-loop-i g l = Cleared g.S.Scale.scale.neutral l.i l.initial.costs l.costs
+abbrev pub invariant-loop-cost : goal.invariant-loop-cost
+invariant-loop-cost g l = let d = g.S.Scale.scale.neutral in (k : ℕ) → k < l.cost-index → get_or l.cost-items k d ≡ d

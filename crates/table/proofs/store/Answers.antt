@@ -3,31 +3,16 @@ use Rattle.chart.specs.Meaning.{Inside, Adds}
 use Rattle.chart.proofs.Within.{inside_from}
 use Rattle.table.specs.Memory.{slot, Stored}
 use Rattle.table.proofs.Slots.{slot_below}
-use Rattle.table.proofs.Views.{stored, held_inside}
+use Rattle.table.proofs.Views.{stored, held_inside, inside_placed}
 use Rattle.table.proofs.store.Goals as goal
-
-pub slot_of-requires : goal.slot_of-requires
-slot_of-requires g c =
-    let m = g.C.Chart in
-    let chart = c.args.chart.now in
-    let placed = c.requires.placed in
-    let most = m.sound.most chart in
-    let within = m.sound.within chart in
-    let few = m.sound.kinds chart in
-    let same = placed.ready.same in
-    let last = placed.last in
-    record { first = placed.first; order = placed.order; last = omega arith; kind = c.requires.kind; few = omega arith }
-
-inside_of : (g : _) (c : goal.After-slot_of g) → Inside (g.C.Chart.seen c.args.chart.now).words c.args.kinds c.args.b c.args.e c.args.a
-inside_of g c = let p = c.requires.placed in record { first = p.first; order = p.order; last = p.last; kind = c.requires.kind }
 
 pub offset_bounds-costs-slot_of : goal.offset_bounds-costs-slot_of
 offset_bounds-costs-slot_of g c =
-    let below : c.slot_of.result < length c.args.costs.now = omega (arith, slot_below _ _ _ _ _ (inside_of g c), c.slot_of.ensures, c.requires.placed.ready.fits) in
+    let below : c.slot_of.result < length c.args.costs.now = omega (arith, slot_below _ _ _ _ _ (inside_placed c.requires.placed c.requires.kind), c.slot_of.ensures, c.requires.placed.ready.fits) in
     search rules
 
 pub bounds-costs-slot_of : goal.bounds-costs-slot_of
-bounds-costs-slot_of g c = omega (arith, slot_below _ _ _ _ _ (inside_of g c), c.slot_of.ensures, c.requires.placed.ready.fits)
+bounds-costs-slot_of g c = omega (arith, slot_below _ _ _ _ _ (inside_placed c.requires.placed c.requires.kind), c.slot_of.ensures, c.requires.placed.ready.fits)
 
 pub returns : goal.returns
 returns g c =
@@ -42,7 +27,7 @@ returns g c =
     let e = c.args.e in
     let a = c.args.a in
     let ready = c.requires.placed.ready in
-    let here = inside_of g c in
+    let here = inside_placed c.requires.placed c.requires.kind in
     let inside : Inside chart.words chart.categories b e a = subst (λ k. Inside chart.words k b e a) (sym ready.same) here in
     let yes : c.put.result ≡ true = did.told ∙ inside_from _ _ _ _ _ inside in
     let adds : Adds chart.holds after.holds true b e a = subst (λ (t : Bool). Adds chart.holds after.holds t b e a) yes did.adds in
