@@ -1,10 +1,10 @@
 -- The first place where something stands, and the longest front of a list that passes a test.
-use Rattle.std.proofs.Common.{◌≡◌, ℕ, zero, suc, ◌+◌, ◌-◌, ◌<◌, ◌≤◌, min, Bool, true, false, cond, ltb, leb, List, [], ◌∷◌, length, get_or, drop, Some, None, Option, sym, refl, ap, ◌∙◌, subst, inl, inr, ⊎_elim, arith, length-drop, MatchOption}
+use Rattle.std.proofs.Common.{◌≡◌, ℕ, zero, suc, ◌+◌, ◌-◌, ◌<◌, ◌≤◌, min, Bool, true, false, not, ltb, leb, List, [], ◌∷◌, length, get_or, drop, Some, None, Option, sym, refl, ap, ◌∙◌, subst, inl, inr, ⊎_elim, arith, length-drop, MatchOption}
 use native.Mathlib.Nat.{sub-zero}
-use Rattle.std.specs.List.{prefix_len}
+use Rattle.std.specs.List.{prefix_len, position_or_len}
 use Rattle.std.proofs.lemmas.List.{get_or-drop, get_or_past}
-use Rattle.std.proofs.lemmas.List.Sums.{prefix_len-le-length}
-use Rattle.std.proofs.lemmas.Bool.{both_ways, cases_lt, cases_order, cond_both, leb-true, leb-false, ltb-true, ltb-false}
+use Rattle.std.proofs.lemmas.List.Sums.{prefix_len-le-length, prefix_len_passes, prefix_len_stops, passes_at_first, fails_before_first}
+use Rattle.std.proofs.lemmas.Bool.{both_ways, not-true, not-false, cases_lt, cases_order, cond_both, leb-true, leb-false, ltb-true, ltb-false}
 use Rattle.lines.specs.Bytes.{own, letter, foreign_at, long_part, long_line, earlier, too_long_at}
 use Rattle.lines.specs.Causes.{First, Nowhere, ForeignAt, RowAt, LongAt}
 
@@ -32,25 +32,11 @@ finds_none P None h p = refl
 finds_none P (Some j) h p = absurd (p j h.here)
 
 module _ (p : ℕ → Bool) where
-  leading_below : (xs : List ℕ) (j : ℕ) → j < prefix_len p xs → p (get_or xs j 0) ≡ true
-  leading_below [] j h = absurd (omega arith)
-  leading_below (x ∷ xs) zero h =
-      elim (p x) as (λ t. 0 < cond t (1 + prefix_len p xs) 0 → t ≡ true) [ true ↦ λ _. refl | false ↦ λ h. absurd (omega arith) ] h
-  leading_below (x ∷ xs) (suc j) h =
-      elim (p x) as (λ t. suc j < cond t (1 + prefix_len p xs) 0 → p (get_or xs j 0) ≡ true) [ true ↦ λ h. leading_below xs j (omega arith) | false ↦ λ h. absurd (omega arith) ] h
-
-  leading_end : (xs : List ℕ) (n : ℕ) → n ≡ prefix_len p xs → n < length xs → p (get_or xs n 0) ≡ false
-  leading_end [] n e h = absurd (omega arith)
-  leading_end (x ∷ xs) zero e h =
-      elim (p x) as (λ t. 0 ≡ cond t (1 + prefix_len p xs) 0 → t ≡ false) [ true ↦ λ e. absurd (omega arith) | false ↦ λ _. refl ] e
-  leading_end (x ∷ xs) (suc n) e h =
-      elim (p x) as (λ t. suc n ≡ cond t (1 + prefix_len p xs) 0 → p (get_or xs n 0) ≡ false) [ true ↦ λ e. leading_end xs n (omega arith) (omega arith) | false ↦ λ e. absurd (omega arith) ] e
-
   leading_at_least : (xs : List ℕ) (m : ℕ) → p 0 ≡ false → ((j : ℕ) → j < m → p (get_or xs j 0) ≡ true) → m ≤ prefix_len p xs
   leading_at_least xs m z all =
       ⊎_elim
       (λ h. absurd (⊎_elim
-      (λ k. both_ways _ (leading_end xs (prefix_len p xs) refl k) (all (prefix_len p xs) h))
+      (λ k. both_ways _ (prefix_len_stops p xs 0 k) (all (prefix_len p xs) h))
       (λ k. both_ways _ (ap p (get_or_past xs (prefix_len p xs) 0 k) ∙ z) (all (prefix_len p xs) h))
       (cases_lt (prefix_len p xs) (length xs))))
       (λ h. h)
@@ -58,13 +44,14 @@ module _ (p : ℕ → Bool) where
 
 pub finds_foreign : (line : List ℕ) → Finds (ForeignAt line) (foreign_at line)
 finds_foreign line =
-    let n = prefix_len own line in
+    let p : ℕ → Bool = λ b. not (own b) in
+    let n = position_or_len p line in
     cond_both (ltb n (length line)) (Some n) None (Finds (ForeignAt line))
     (λ e. record {
-      here = record { inside = ltb-true n (length line) e; foreign = leading_end own line n refl (ltb-true n (length line) e) };
-      earlier = λ j h f. both_ways _ f.foreign (leading_below own line j h);
+      here = record { inside = ltb-true n (length line) e; foreign = not-true _ (passes_at_first p line 0 (ltb-true n (length line) e)) };
+      earlier = λ j h f. both_ways _ f.foreign (not-false _ (fails_before_first p line j 0 h));
     })
-    (λ e k f. both_ways _ f.foreign (leading_below own line k (omega (arith, ltb-false n (length line) e, f.inside))))
+    (λ e k f. both_ways _ f.foreign (not-false _ (fails_before_first p line k 0 (omega (arith, ltb-false n (length line) e, f.inside)))))
 
 -- 17 letters or more stand in front of what is left from k on
 abbrev LongFrom : List ℕ → ℕ → Type 0
@@ -74,7 +61,7 @@ row_long : (line : List ℕ) (k : ℕ) → RowAt line k → LongFrom line k
 row_long line k r = leading_at_least letter (drop k line) 17 refl (λ j h. ap letter (get_or-drop k line j 0) ∙ r j h)
 
 long_row : (line : List ℕ) (k : ℕ) → LongFrom line k → RowAt line k
-long_row line k h j l = ap letter (sym (get_or-drop k line j 0)) ∙ leading_below letter (drop k line) j (omega arith)
+long_row line k h j l = ap letter (sym (get_or-drop k line j 0)) ∙ prefix_len_passes letter (drop k line) j 0 (omega arith)
 
 -- the same of places counted from i
 abbrev pub FindsFrom : ℕ → (ℕ → Type 0) → Option ℕ → Type 0

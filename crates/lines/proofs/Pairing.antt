@@ -1,7 +1,7 @@
 -- The bracket that does not pair, found among the tokens, is the first that does not pair among the bytes.
-use Rattle.std.proofs.Common.{◌≡◌, ℕ, zero, suc, ◌+◌, ◌-◌, ◌<◌, true, false, cond, ◌&&◌, eqb, leb, ◌⊎◌, List, [], ◌∷◌, length, take, Some, None, Ok, Err, Option, sym, refl, ap, subst, inl, inr, ⊎_elim, zero-add, add-one, arith}
+use Rattle.std.proofs.Common.{◌≡◌, ℕ, suc, ◌+◌, ◌-◌, ◌<◌, true, false, cond, ◌&&◌, eqb, leb, ◌⊎◌, List, [], ◌∷◌, length, take, Some, None, Ok, Err, Option, sym, refl, subst, inl, inr, ⊎_elim, zero-add, add-one, arith}
 use Rattle.std.proofs.lemmas.List.Sums.{sum_by-cons}
-use Rattle.std.proofs.lemmas.Bool.{cond_both, eqb-true, eqb-false, ne_eqb}
+use Rattle.std.proofs.lemmas.Bool.{cond-true, cond-false, cond_both, eqb-true, eqb-false, ne_eqb}
 use Rattle.lines.specs.declared.bytes.Class.{Class}
 use Rattle.lines.specs.declared.bytes.Class.TheVariants.{Open, Close, Blank, LineEnd, Letter, Foreign}
 use Rattle.lines.specs.declared.reader.Token.{Token}
@@ -18,16 +18,6 @@ Off d bs k = (d + opened (take (suc k) bs) < closed (take (suc k) bs)) ⊎ ((k �
 
 abbrev one : ℕ → ℕ → ℕ
 one a b = cond (eqb b a) 1 0
-
-one_yes : (a b : ℕ) → eqb b a ≡ true → one a b ≡ 1
-one_yes a b e = ap (λ t. cond t 1 0) e
-
-one_no : (a b : ℕ) → eqb b a ≡ false → one a b ≡ 0
-one_no a b e = ap (λ t. cond t 1 0) e
-
-positive : (d : ℕ) → eqb d 0 ≡ false → 0 < d
-positive zero z = absurd (eqb-false 0 0 z refl)
-positive (suc d) z = omega arith
 
 opened_cons : (b : ℕ) (bs : List ℕ) → opened (b ∷ bs) ≡ one 40 b + opened bs
 opened_cons b bs = sum_by-cons (one 40) b bs
@@ -69,18 +59,18 @@ finds_off : (n d i : ℕ) (bs : List ℕ) → i + length bs ≡ n → FindsFrom 
 finds_off n d i [] e =
     cond_both (eqb d 0) None (Some n) (FindsFrom i (Off d []))
     (λ z k x. ⊎_elim (λ h. omega arith) (λ h. omega (arith, h.1, eqb-true d 0 z)) x)
-    (λ z. let some : 0 < d = positive d z in found i n (Off d []) (omega arith) (inr (refl, omega arith)))
+    (λ z. let some = eqb-false d 0 z in found i n (Off d []) (omega arith) (inr (refl, omega arith)))
 finds_off n d i (b ∷ bs) e =
     let ts = tokens_from (i + 1) bs in
     let P : Class → Type 0 = λ x. FindsFrom i (Off d (b ∷ bs)) (still_open n (run deeper d (before i x ts))) in
     let rec : (m : ℕ) → FindsFrom (i + 1) (Off m bs) (still_open n (run deeper m ts)) = λ m. finds_off n m (i + 1) bs (omega arith) in
     cond_both (eqb b 40) Open _ P
-    (λ h. on d (d + 1) b bs (omega (arith, one_yes 40 b h, one_no 41 b (ne_eqb b 41 (λ q. omega (arith, eqb-true b 40 h))))) i _ (rec (d + 1)))
+    (λ h. on d (d + 1) b bs (omega (arith, cond-true {A = ℕ} _ 1 0 h, cond-false {A = ℕ} _ 1 0 (ne_eqb b 41 (λ q. omega (arith, eqb-true b 40 h))))) i _ (rec (d + 1)))
     (λ n40. cond_both (eqb b 41) Close _ P
     (λ h. cond_both (eqb d 0) (Err i) (Ok (d - 1)) (λ r. FindsFrom i (Off d (b ∷ bs)) (still_open n (on_ok r (λ t. run deeper t ts))))
-    (λ z. found i i (Off d (b ∷ bs)) refl (inl (omega (arith, one_no 40 b n40, one_yes 41 b h, eqb-true d 0 z, opened_cons b [], closed_cons b []))))
-    (λ z. on d (d - 1) b bs (omega (arith, one_no 40 b n40, one_yes 41 b h, positive d z)) i _ (rec (d - 1))))
-    (λ n41. let plain : FindsFrom i (Off d (b ∷ bs)) (still_open n (run deeper d ts)) = on d d b bs (omega (arith, one_no 40 b n40, one_no 41 b n41)) i _ (rec d) in
+    (λ z. found i i (Off d (b ∷ bs)) refl (inl (omega (arith, cond-false {A = ℕ} _ 1 0 n40, cond-true {A = ℕ} _ 1 0 h, eqb-true d 0 z, opened_cons b [], closed_cons b []))))
+    (λ z. on d (d - 1) b bs (omega (arith, cond-false {A = ℕ} _ 1 0 n40, cond-true {A = ℕ} _ 1 0 h, eqb-false d 0 z)) i _ (rec (d - 1))))
+    (λ n41. let plain : FindsFrom i (Off d (b ∷ bs)) (still_open n (run deeper d ts)) = on d d b bs (omega (arith, cond-false {A = ℕ} _ 1 0 n40, cond-false {A = ℕ} _ 1 0 n41)) i _ (rec d) in
     cond_both (eqb b 32) Blank _ P (λ _. plain) (λ _. cond_both (eqb b 10) LineEnd _ P (λ _. plain) (λ _. cond_both (leb 33 b && leb b 126) Letter Foreign P
     (λ _. subst (λ r. FindsFrom i (Off d (b ∷ bs)) (still_open n r)) (sym (joined_runs d i (i + 1) ts)) plain) (λ _. plain)))))
 

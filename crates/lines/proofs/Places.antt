@@ -11,7 +11,6 @@ use Rattle.lines.specs.declared.fault.Stop.{Stop}
 use Rattle.lines.specs.declared.reader.Span.{Span}
 use Rattle.lines.specs.declared.reader.Token.{Token}
 use Rattle.lines.specs.declared.reader.Token.TheVariants.{Opening, Closing, Part}
-use Rattle.lines.specs.declared.shape.Ahead.{Ahead}
 use Rattle.lines.specs.declared.shape.Allowed.{Allowed}
 use Rattle.lines.specs.declared.shape.Head.{Head}
 use Rattle.lines.specs.declared.shape.Head.TheVariants.{Top, Rule, Lex, Scale, Ladder, Say}
@@ -70,7 +69,7 @@ rest_stands : (n : ℕ) (ts : List Token) → AllByRecursion (Stands n) ts → A
 rest_stands n [] a = tt
 rest_stands n (t ∷ ts) a = a.1
 
-next : {X : Type 0} (n : ℕ) (f : Ahead → Result X Misfit) (ts : List Token) → AllByRecursion (Stands n) ts → IfOk (taken f ts) (Left n Any)
+next : {X : Type 0} (n : ℕ) (f : Option Token → Result X Misfit) (ts : List Token) → AllByRecursion (Stands n) ts → IfOk (taken f ts) (Left n Any)
 next n f ts a = then Any (Left n Any) (f (first ts)) (λ x. Ok (x, rest ts)) (any (f (first ts))) (λ x _. (tt, rest_stands n ts a))
 
 part : (n : ℕ) (ts : List Token) → AllByRecursion (Stands n) ts → IfOk (taken as_part ts) (Left n (Lies n))
@@ -113,7 +112,7 @@ module _ (n : ℕ) where
   on_part : (ts : List Token) (f : Span × List Token → Parsed (Reading Span)) → AllByRecursion (Stands n) ts → ((p : Span × List Token) → Left n (Lies n) p → Made (f p)) → Made (on_ok (taken as_part ts) f)
   on_part ts f a g = then (Left n (Lies n)) (Left n (In n)) (taken as_part ts) f (part n ts a) g
 
-  on_next : {X : Type 0} (t : Ahead → Result X Misfit) (ts : List Token) (f : X × List Token → Parsed (Reading Span)) → AllByRecursion (Stands n) ts → ((p : X × List Token) → AllByRecursion (Stands n) p.1 → Made (f p)) → Made (on_ok (taken t ts) f)
+  on_next : {X : Type 0} (t : Option Token → Result X Misfit) (ts : List Token) (f : X × List Token → Parsed (Reading Span)) → AllByRecursion (Stands n) ts → ((p : X × List Token) → AllByRecursion (Stands n) p.1 → Made (f p)) → Made (on_ok (taken t ts) f)
   on_next t ts f a g = then (Left n Any) (Left n (In n)) (taken t ts) f (next n t ts a) (λ p h. g p h.1)
 
   top_in : (ts : List Token) → AllByRecursion (Stands n) ts → Made (top_of ts)

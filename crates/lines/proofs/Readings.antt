@@ -1,25 +1,23 @@
 -- A reader that moves by state and class reads the tokens of its line.
-use Rattle.std.proofs.Common.{◌≡◌, ℕ, ◌+◌, ◌<◌, ◌≤◌, true, false, cond, eqb, List, [], ◌∷◌, ◌++◌, length, get_or, drop, sym, refl, ap, ◌∙◌, append_assoc, arith}
+use Rattle.std.proofs.Common.{◌≡◌, ℕ, ◌+◌, ◌<◌, ◌≤◌, true, false, cond, eqb, List, [], ◌∷◌, ◌++◌, length, get_or, drop, Some, None, Option, sym, refl, ap, ◌∙◌, append_assoc, arith}
 use Rattle.std.proofs.lemmas.List.{at_drop_more, at_drop_all}
 use Rattle.std.proofs.lemmas.Bool.{eq-eqb, ne_eqb, cond-true, cond-false}
 use Rattle.lines.specs.declared.bytes.Class.{Class}
 use Rattle.lines.specs.declared.bytes.Class.TheVariants.{Open, Close, Blank, LineEnd, Letter, Foreign}
 use Rattle.lines.specs.declared.reader.Token.{Token}
 use Rattle.lines.specs.declared.reader.Token.TheVariants.{Opening, Closing, Part}
-use Rattle.lines.specs.declared.reader.State.{State}
-use Rattle.lines.specs.declared.reader.State.TheVariants.{Between, Within}
 use Rattle.lines.specs.Bytes.{class_of}
 use Rattle.lines.specs.Tokens.{part_at, joined, before, tokens_from}
 use Rattle.lines.specs.Moves.{Sofar, ended, after, given, moved}
 
 -- a part under way, before the tokens that follow
-abbrev under : State → ℕ → List Token → List Token
-under Between i ts = ts
-under (Within start) i ts = joined start i ts
+abbrev under : Option ℕ → ℕ → List Token → List Token
+under None i ts = ts
+under (Some start) i ts = joined start i ts
 
 -- what a reader ends with, where bs follow
 abbrev pub read_on : Sofar → List ℕ → List Token
-read_on r bs = r.tokens ++ under r.state r.at (tokens_from r.at bs)
+read_on r bs = r.tokens ++ under r.part r.at (tokens_from r.at bs)
 
 -- the first part among tokens starts at i or later
 abbrev From : ℕ → List Token → Type 0
@@ -69,22 +67,22 @@ onto s i (Part p ∷ ts) =
     elim (eqb p.start (i + 1)) as (λ t. joined s i (cond t (part_at i p.end ∷ ts) (part_at i (i + 1) ∷ Part p ∷ ts)) ≡ cond t (part_at s p.end ∷ ts) (part_at s (i + 1) ∷ Part p ∷ ts))
     [ true ↦ cond-true _ _ _ (eq-eqb i i refl) | false ↦ cond-true _ _ _ (eq-eqb i i refl) ]
 
-step : (s : State) (i : ℕ) (c : Class) (ts : List Token) → From (i + 1) ts → given s i c ++ under (after s i c) (i + 1) ts ≡ under s i (before i c ts)
-step Between i Open ts h = refl
-step Between i Close ts h = refl
-step Between i Blank ts h = refl
-step Between i LineEnd ts h = refl
-step Between i Letter ts h = refl
-step Between i Foreign ts h = refl
-step (Within s) i Open ts h = refl
-step (Within s) i Close ts h = refl
-step (Within s) i Blank ts h = sym (apart s i ts h)
-step (Within s) i LineEnd ts h = sym (apart s i ts h)
-step (Within s) i Letter ts h = sym (onto s i ts)
-step (Within s) i Foreign ts h = sym (apart s i ts h)
+step : (s : Option ℕ) (i : ℕ) (c : Class) (ts : List Token) → From (i + 1) ts → given s i c ++ under (after s i c) (i + 1) ts ≡ under s i (before i c ts)
+step None i Open ts h = refl
+step None i Close ts h = refl
+step None i Blank ts h = refl
+step None i LineEnd ts h = refl
+step None i Letter ts h = refl
+step None i Foreign ts h = refl
+step (Some s) i Open ts h = refl
+step (Some s) i Close ts h = refl
+step (Some s) i Blank ts h = sym (apart s i ts h)
+step (Some s) i LineEnd ts h = sym (apart s i ts h)
+step (Some s) i Letter ts h = sym (onto s i ts)
+step (Some s) i Foreign ts h = sym (apart s i ts h)
 
 pub moves : (r : Sofar) (b : ℕ) (bs : List ℕ) → read_on (moved r (class_of b)) bs ≡ read_on r (b ∷ bs)
-moves r b bs = append_assoc r.tokens (given r.state r.at (class_of b)) _ ∙ ap (λ ts. r.tokens ++ ts) (step r.state r.at (class_of b) (tokens_from (r.at + 1) bs) (from_tokens (r.at + 1) bs))
+moves r b bs = append_assoc r.tokens (given r.part r.at (class_of b)) _ ∙ ap (λ ts. r.tokens ++ ts) (step r.part r.at (class_of b) (tokens_from (r.at + 1) bs) (from_tokens (r.at + 1) bs))
 
 -- one turn of the reader over a line, and the end
 pub more : (r s : Sofar) (c : Class) (i : ℕ) (line : List ℕ) {ts : List Token} → i < length line → c ≡ class_of (get_or line i 0) → s ≡ moved r c → read_on r (drop i line) ≡ ts → read_on s (drop (i + 1) line) ≡ ts
@@ -93,8 +91,8 @@ more r s c i line h k e inv = ap (λ q. read_on q (drop (i + 1) line)) (e ∙ ap
 pub moves_on : (r s : Sofar) (c : Class) → s ≡ moved r c → s.at ≡ r.at + 1
 moves_on r s c e = ap (λ (q : Sofar). q.at) e
 
-end : (r : Sofar) → r.tokens ++ ended r.state r.at ≡ read_on r []
-end r = elim r.state as (λ s. r.tokens ++ ended s r.at ≡ r.tokens ++ under s r.at []) [ Between ↦ refl | Within start ↦ refl ]
+end : (r : Sofar) → r.tokens ++ ended r.part r.at ≡ read_on r []
+end r = elim r.part as (λ s. r.tokens ++ ended s r.at ≡ r.tokens ++ under s r.at []) [ None ↦ refl | Some start ↦ refl ]
 
-pub ends : (r : Sofar) (i : ℕ) (line : List ℕ) {ts : List Token} → length line ≤ i → read_on r (drop i line) ≡ ts → r.tokens ++ ended r.state r.at ≡ ts
+pub ends : (r : Sofar) (i : ℕ) (line : List ℕ) {ts : List Token} → length line ≤ i → read_on r (drop i line) ≡ ts → r.tokens ++ ended r.part r.at ≡ ts
 ends r i line h inv = end r ∙ sym (at_drop_all (read_on r) line i h) ∙ inv

@@ -1,6 +1,6 @@
 -- The bytes of a line: their classes, and the two faults of the text layer, a foreign byte and what is too long.
-use Rattle.std.specs.Prelude.{ℕ, ◌+◌, min, Bool, true, false, cond, ◌&&◌, List, [], ◌∷◌, length, Some, None, Option, ◌==◌, nat_le, nat_lt}
-use Rattle.std.specs.List.{prefix_len}
+use Rattle.std.specs.Prelude.{ℕ, ◌+◌, min, Bool, true, false, not, cond, ◌&&◌, List, [], ◌∷◌, length, Some, None, Option, ◌==◌, nat_le, nat_lt}
+use Rattle.std.specs.List.{prefix_len, position}
 use Rattle.lines.specs.declared.bytes.Class.{Class}
 use Rattle.lines.specs.declared.bytes.Class.TheVariants.{Open, Close, Blank, LineEnd, Letter, Foreign}
 
@@ -50,17 +50,13 @@ letter b = is_letter (class_of b)
 
 -- the place, from 0, of the first foreign byte
 abbrev pub foreign_at : List ℕ → Option ℕ
-foreign_at line = cond (nat_lt (prefix_len own line) (length line)) (Some (prefix_len own line)) None
+foreign_at line = position (λ b. not (own b)) line
 
 -- the place where the first part of more than 16 bytes starts, in bytes whose first has the place i:
 -- the first place with 17 letters in a row
 abbrev pub long_part : ℕ → List ℕ → Option ℕ
 long_part i [] = None
 long_part i (b ∷ bs) = cond (nat_le 17 (prefix_len letter (b ∷ bs))) (Some i) (long_part (i + 1) bs)
-
--- how many letters in a row end with the byte b, after `run` of them
-abbrev pub counted : ℕ → ℕ → ℕ
-counted run b = cond (letter b) (run + 1) 0
 
 -- the first place past the longest line
 abbrev pub long_line : List ℕ → Option ℕ

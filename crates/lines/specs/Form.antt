@@ -1,11 +1,10 @@
 -- What a line says: its form, or its fault. The cause of a fault is chosen by the order of the causes over the whole line, and not by place.
-use Rattle.std.specs.Prelude.{ℕ, ◌+◌, ◌<◌, ◌≤◌, List, [], ◌∷◌, ◌++◌, length, Some, None, Ok, Err, vec_items, Option, Result}
+use Rattle.std.specs.Prelude.{ℕ, ◌+◌, ◌<◌, ◌≤◌, List, [], ◌∷◌, ◌++◌, length, Some, None, Ok, Err, Option, Result}
 use Rattle.std.specs.List.{AllByRecursion}
 use Rattle.refusals.specs.declared.Refusal.{Refusal}
 use Rattle.refusals.specs.declared.Refusal.TheVariants.{ForeignByte, TooLong, Unpaired, WrongForm, WrongNumber}
 use Rattle.lines.specs.declared.fault.LineFault.{LineFault}
 use Rattle.lines.specs.declared.form.Form.{Form}
-use Rattle.lines.specs.declared.form.Form.TheVariants as forms
 use Rattle.lines.specs.declared.reader.Span.{Span}
 use Rattle.lines.specs.declared.reader.Token.{Token}
 use Rattle.lines.specs.declared.shape.Allowed.{Allowed}
@@ -13,8 +12,8 @@ use Rattle.lines.specs.declared.shape.Misfit.{Misfit}
 use Rattle.lines.specs.declared.shape.Misfit.TheVariants.{At, Missing}
 use Rattle.lines.specs.Bytes.{foreign_at, too_long_at}
 use Rattle.lines.specs.Decimal.{number_of}
-use Rattle.lines.specs.Run.{on_ok, run}
-use Rattle.lines.specs.Shape.{Reading, top, chain, binary, lexical, scale, ladder, say, shape_of, unpaired_at}
+use Rattle.lines.specs.Run.{on_ok, ◌>>=◌, run}
+use Rattle.lines.specs.Shape.{Reading, top, chain, binary, lexical, scale, ladder, say, shape_of, shown, unpaired_at}
 use Rattle.lines.specs.Tokens.{bytes_at, tokens_from}
 
 -- a fault at a place counted from 0; its byte is counted from 1
@@ -64,10 +63,10 @@ valued line (say ws) = Ok (say ws)
 abbrev pub tokens_form : Allowed → List ℕ → List Token → Result (Option (Reading ℕ)) LineFault
 tokens_form allowed line [] = Ok None
 tokens_form allowed line (t ∷ ts) =
-    unless Unpaired (unpaired_at (length line) (t ∷ ts))
-    (on_ok (fitted (length line) (shape_of allowed line (t ∷ ts))) (λ s.
-    on_ok (valued line s) (λ f.
-    Ok (Some f))))
+    unless Unpaired (unpaired_at (length line) (t ∷ ts)) (do
+      s ← fitted (length line) (shape_of allowed line (t ∷ ts))
+      f ← valued line s
+      Ok (Some f))
 
 -- the form of a line where the heads that `allowed` names may stand, or its fault
 abbrev pub line_form : Allowed → List ℕ → Result (Option (Reading ℕ)) LineFault
@@ -76,17 +75,7 @@ line_form allowed line =
     (unless TooLong (too_long_at line)
     (tokens_form allowed line (tokens_from 0 line)))
 
--- a form as the definitions have it, with lists for its vectors
-abbrev pub shown : Form → Reading ℕ
-shown (forms.Top a) = top a
-shown (forms.Chain w a b) = chain w a b
-shown (forms.Binary w a b c) = binary w a b c
-shown (forms.Lexical w a x) = lexical w a x
-shown (forms.Scale s) = scale s
-shown (forms.Ladder ts) = ladder (vec_items ts)
-shown (forms.Say ws) = say (vec_items ws)
-
-abbrev pub shown_if : Option Form → Option (Reading ℕ)
+abbrev pub shown_if : Option (Form ℕ) → Option (Reading ℕ)
 shown_if None = None
 shown_if (Some f) = Some (shown f)
 

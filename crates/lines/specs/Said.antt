@@ -12,3 +12,15 @@ Stops (Refusal e) s = Err e ≡ s
 abbrev pub Says : {X T F : Type 0} → (X → T) → Result X (Stop F) → Result T F → Type 0
 Says f (Ok v) s = Ok (f v) ≡ s
 Says f (Err e) s = Stops e s
+
+-- P of the fault, where there is one
+abbrev pub OfFault : {F : Type 0} → Stop F → (F → Type 0) → Type 0
+OfFault Memory P = Unit {0}
+OfFault (Refusal e) P = P e
+
+-- the fault told again as T says; want of memory stays
+abbrev pub Retells : {F G : Type 0} → (F → G → Type 0) → Stop F → Stop G → Type 0
+Retells T Memory Memory = Unit {0}
+Retells T Memory (Refusal d) = ⊥
+Retells T (Refusal e) Memory = ⊥
+Retells T (Refusal e) (Refusal d) = T e d

@@ -11,6 +11,12 @@ use Rattle.lines.specs.Bytes.{class_of}
 abbrev pub bytes_at : List ℕ → Span → List ℕ
 bytes_at line s = take (s.end - s.start) (drop s.start line)
 
+-- the place of a token's first byte
+abbrev pub start_of : Token → ℕ
+start_of (Opening at) = at
+start_of (Closing at) = at
+start_of (Part s) = s.start
+
 abbrev pub part_at : ℕ → ℕ → Token
 part_at start end = Part (record { start = start; end = end })
 

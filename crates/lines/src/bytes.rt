@@ -1,7 +1,7 @@
 // The text layer: the classes of bytes, where a line ends, and what no line may hold.
-ghost use Rattle.std.specs.Prelude.{◌≡◌, ℕ, ◌+◌, ◌-◌, ◌<◌, ◌≤◌, length, IfSome, MatchOption};
-ghost use Rattle.std.specs.List.{prefix_len};
-ghost use Rattle.lines.specs.Bytes.{class_of, in_line, own, letter, foreign_at, counted, long_part, too_long_at};
+ghost use Rattle.std.specs.Prelude.{◌≡◌, ◌<◌, ◌≤◌, length, IfSome, MatchOption};
+ghost use Rattle.std.specs.List.{list_all, prefix_len};
+ghost use Rattle.lines.specs.Bytes.{class_of, ends_no, in_line, is_own, is_letter, letter, foreign_at, long_part, too_long_at};
 
 // The most bytes of a part, and of a line.
 const PART: usize = 16;
@@ -18,35 +18,39 @@ pub enum Class {
     Foreign,
 }
 
-pub fn class_of(b: u8) -> Class
-    ensures { result ≡ class_of b }
-{
-    match b as char {
-        '(' => Class::Open,
-        ')' => Class::Close,
-        ' ' => Class::Blank,
-        '\n' => Class::LineEnd,
-        '!'..='~' => Class::Letter,
-        _ => Class::Foreign,
+impl From<u8> for Class {
+    ghost from_gives = { λ b c. c ≡ class_of b };
+
+    fn from(b: u8) -> Class {
+        match b as char {
+            '(' => Class::Open,
+            ')' => Class::Close,
+            ' ' => Class::Blank,
+            '\n' => Class::LineEnd,
+            '!'..='~' => Class::Letter,
+            _ => Class::Foreign,
+        }
     }
 }
 
-fn is_own(b: u8) -> bool
-    ensures { result ≡ own b }
-{
-    !matches!(class_of(b), Class::LineEnd | Class::Foreign)
-}
+impl Class {
+    fn is_in_line(self) -> bool
+        ensures { result ≡ ends_no self }
+    {
+        !matches!(self, Class::LineEnd)
+    }
 
-fn is_letter(b: u8) -> bool
-    ensures { result ≡ letter b }
-{
-    matches!(class_of(b), Class::Letter)
-}
+    fn is_own(self) -> bool
+        ensures { result ≡ is_own self }
+    {
+        !matches!(self, Class::LineEnd | Class::Foreign)
+    }
 
-fn is_in_line(b: u8) -> bool
-    ensures { result ≡ in_line b }
-{
-    !matches!(class_of(b), Class::LineEnd)
+    fn is_letter(self) -> bool
+        ensures { result ≡ is_letter self }
+    {
+        matches!(self, Class::Letter)
+    }
 }
 
 // How many bytes of `rest` come before its first line end.
@@ -54,12 +58,9 @@ pub fn line_length(rest: &[u8]) -> usize
     ensures value { result ≡ prefix_len in_line rest.now }
     ensures within { result ≤ length rest.now }
 {
-    for (i, b) in rest.iter().enumerate() {
-        if !is_in_line(*b) {
-            return i;
-        }
-    }
-    rest.len()
+    rest.iter()
+        .take_while(|b| Class::from(**b).is_in_line())
+        .count()
 }
 
 // The place of the first byte that no line may hold; a line end that is handed in is such a byte.
@@ -67,21 +68,14 @@ pub fn foreign_at(line: &[u8]) -> Option<usize>
     ensures value { result ≡ foreign_at line.now }
     ensures within { IfSome result (λ at. at < length line.now) }
 {
-    for (i, b) in line.iter().enumerate() {
-        if !is_own(*b) {
-            return Some(i);
-        }
-    }
-    None
+    line.iter().position(|b| !Class::from(*b).is_own())
 }
 
-// How many letters in a row end with `b`, after `run` of them.
-fn counted(run: usize, b: u8) -> usize
-    requires { run ≤ 16 }
-    ensures value { result ≡ counted run b }
-    ensures bound { result ≤ run + 1 }
+// Whether all bytes of a part are letters.
+fn all_letters(part: &[u8]) -> bool
+    ensures { result ≡ list_all letter part.now }
 {
-    if is_letter(b) { run + 1 } else { 0 }
+    part.iter().all(|b| Class::from(*b).is_letter())
 }
 
 // Where the first part of more than 16 bytes starts.
@@ -89,14 +83,7 @@ fn long_part(line: &[u8]) -> Option<usize>
     ensures value { result ≡ long_part 0 line.now }
     ensures within { IfSome result (λ at. at < length line.now) }
 {
-    let mut run = 0;
-    for (i, b) in line.iter().enumerate() {
-        run = counted(run, *b);
-        if run > PART {
-            return Some(i - PART);
-        }
-    }
-    None
+    line.windows(PART + 1).position(|part| all_letters(part))
 }
 
 // The place of what is too long: a part of more than 16 bytes, or the 1,025th byte.
@@ -108,8 +95,5 @@ pub fn too_long_at(line: &[u8]) -> Option<usize>
     if line.len() <= LINE {
         return part;
     }
-    match part {
-        Some(at) => Some(at.min(LINE)),
-        None => Some(LINE),
-    }
+    Some(part.unwrap_or(LINE).min(LINE))
 }

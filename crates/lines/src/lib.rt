@@ -12,6 +12,7 @@ use std::alloc::Global;
 mod bytes;
 mod fault;
 mod form;
+mod line;
 mod number;
 mod reader;
 mod shape;
@@ -22,33 +23,27 @@ pub use bytes::line_length;
 use bytes::{foreign_at, too_long_at};
 pub use fault::{LineFault, Stop};
 pub use form::Form;
-use form::{fault_at, fitted_shape, form_of};
+use line::Line;
 pub use number::reads_decimal;
 pub use reader::Span;
-use reader::{Token, tokens};
+use reader::Token;
 use shape::unpaired_at;
 pub use shape::{Allowed, ScaleName};
 
-// The form that the tokens of a line make, if there are any.
-fn tokens_form(
-    heap: Global,
-    line: &[u8],
-    allowed: Allowed,
-    tokens: &[Token],
-) -> Result<Option<Form>, Stop<LineFault>>
-    requires { length line.now ≤ 1024 }
-    ensures { Says shown_if result (tokens_form allowed line.now tokens.now) }
-{
-    if tokens.is_empty() {
-        return Ok(None);
+impl Line<'_> {
+    // The form that the tokens of the line make, if there are any.
+    fn form(&self, tokens: &[Token]) -> Result<Option<Form<u16>>, Stop<LineFault>>
+        ensures { Says shown_if result (tokens_form self.now.allowed self.now.bytes.now tokens.now) }
+    {
+        if tokens.is_empty() {
+            return Ok(None);
+        }
+        if let Some(at) = unpaired_at(tokens, self.end()) {
+            return Err(Stop::Refusal(LineFault::at(Refusal::Unpaired, usize::from(at))));
+        }
+        let shape = self.fitted(tokens)?;
+        Ok(Some(self.valued(shape)?))
     }
-    let end = line.len() as u16;
-    if let Some(at) = unpaired_at(tokens, end) {
-        return Err(Stop::Refusal(fault_at(Refusal::Unpaired, usize::from(at))));
-    }
-    let shape = fitted_shape(heap, allowed, line, tokens, end)?;
-    let form = form_of(heap, line, shape)?;
-    Ok(Some(form))
 }
 
 // The form of a line, which is given without its line end; none where it is blank.
@@ -57,23 +52,26 @@ pub fn read_line(
     heap: Global,
     line: &[u8],
     allowed: Allowed,
-) -> Result<Option<Form>, Stop<LineFault>>
+) -> Result<Option<Form<u16>>, Stop<LineFault>>
     ensures says { Says shown_if result (line_form allowed line.now) }
     ensures inside { IfOk result (λ o. InsideIf (length line.now) (shown_if o)) }
 {
     if let Some(at) = foreign_at(line) {
-        return Err(Stop::Refusal(fault_at(Refusal::ForeignByte, at)));
+        return Err(Stop::Refusal(LineFault::at(Refusal::ForeignByte, at)));
     }
     if let Some(at) = too_long_at(line) {
-        return Err(Stop::Refusal(fault_at(Refusal::TooLong, at)));
+        return Err(Stop::Refusal(LineFault::at(Refusal::TooLong, at)));
     }
-    let tokens = tokens(heap, line)?;
-    tokens_form(heap, line, allowed, &tokens)
+    let line = Line {
+        heap,
+        bytes: line,
+        allowed,
+    };
+    let tokens = line.tokens()?;
+    line.form(&tokens)
 }
 
 // Each fault of the text and of the brackets is answered exactly where its cause stands first.
-pub fn faults_have_causes() -> u8
+pub fn faults_have_causes()
     ensures { FaultsHaveCauses }
-{
-    0
-}
+{}

@@ -29,16 +29,10 @@ pub fn number_of(part: &[u8]) -> Option<u16>
     if is_padded(part) {
         return None;
     }
-    let mut n = 0;
-    for b in part {
-        n = pushed(n, *b)?;
-    }
-    Some(n)
+    part.iter().try_fold(0, |n, b| pushed(n, *b))
 }
 
 // A part is read as a number just where it is that number written in decimal.
-pub fn reads_decimal() -> u8
+pub fn reads_decimal()
     ensures { ReadsDecimal }
-{
-    0
-}
+{}

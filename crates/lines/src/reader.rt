@@ -1,11 +1,11 @@
 // The reader: cuts a line into brackets and parts, byte by byte.
 ghost use Rattle.std.specs.Prelude.{◌≡◌, ℕ, ◌+◌, ◌^◌, ◌<◌, ◌≤◌, [], ◌∷◌, ◌++◌, length, IfOk, vec_len, OnOk};
-ghost use Rattle.lines.specs.Bytes.{class_of};
-ghost use Rattle.lines.specs.Tokens.{bytes_at, tokens_from};
+ghost use Rattle.lines.specs.Tokens.{bytes_at, start_of, tokens_from};
 ghost use Rattle.lines.specs.Moves.{sofar, ended, moved};
 
-use crate::bytes::{Class, class_of};
-use std::alloc::{AllocError, Global};
+use crate::bytes::Class;
+use crate::line::Line;
+use std::alloc::AllocError;
 
 // A place in a line: from `start` up to `end`, counted from 0. Names are places in the text; nothing is copied.
 #[derive(Clone, Copy, PartialEq, Eq, Debug)]
@@ -32,17 +32,23 @@ pub enum Token {
     Part(Span),
 }
 
-// Between parts, or within one that started at a place.
-#[derive(Clone, Copy)]
-pub enum State {
-    Between,
-    Within { start: u16 },
+impl Token {
+    // The place of its first byte.
+    pub fn start(self) -> u16
+        ensures { result ≡ start_of self }
+    {
+        match self {
+            Token::Opening { at } | Token::Closing { at } => at,
+            Token::Part(span) => span.start,
+        }
+    }
 }
 
 #[derive(Drop)]
 pub struct Reader {
     at: u16,
-    state: State,
+    // where the part that is under way started, if one is
+    part: Option<u16>,
     tokens: Vec<Token>,
 }
 
@@ -52,31 +58,31 @@ impl Reader {
         ensures { OnOk result (sofar self.new ≡ moved (sofar self.old) class) }
     {
         let at = self.at;
-        self.state = match (self.state, class) {
-            (State::Between, Class::Letter) => State::Within { start: at },
-            (State::Within { start }, Class::Letter) => State::Within { start },
-            (State::Between, Class::Open) => {
+        self.part = match (self.part, class) {
+            (None, Class::Letter) => Some(at),
+            (Some(start), Class::Letter) => Some(start),
+            (None, Class::Open) => {
                 self.tokens.push(Token::Opening { at })?;
-                State::Between
+                None
             }
-            (State::Within { start }, Class::Open) => {
+            (Some(start), Class::Open) => {
                 self.tokens.push(Token::Part(Span { start, end: at }))?;
                 self.tokens.push(Token::Opening { at })?;
-                State::Between
+                None
             }
-            (State::Between, Class::Close) => {
+            (None, Class::Close) => {
                 self.tokens.push(Token::Closing { at })?;
-                State::Between
+                None
             }
-            (State::Within { start }, Class::Close) => {
+            (Some(start), Class::Close) => {
                 self.tokens.push(Token::Part(Span { start, end: at }))?;
                 self.tokens.push(Token::Closing { at })?;
-                State::Between
+                None
             }
-            (State::Between, Class::Blank | Class::LineEnd | Class::Foreign) => State::Between,
-            (State::Within { start }, Class::Blank | Class::LineEnd | Class::Foreign) => {
+            (None, Class::Blank | Class::LineEnd | Class::Foreign) => None,
+            (Some(start), Class::Blank | Class::LineEnd | Class::Foreign) => {
                 self.tokens.push(Token::Part(Span { start, end: at }))?;
-                State::Between
+                None
             }
         };
         self.at = at + 1;
@@ -85,32 +91,33 @@ impl Reader {
 
     // The tokens, with the part that the line's end ends.
     fn finish(self) -> Result<Vec<Token>, AllocError>
-        ensures { IfOk result (λ v. v.items ≡ (sofar self).tokens ++ ended self.state self.at) }
+        ensures { IfOk result (λ v. v.items ≡ (sofar self).tokens ++ ended self.part self.at) }
     {
         let Reader {
             at,
-            state,
+            part,
             mut tokens,
         } = self;
-        if let State::Within { start } = state {
+        if let Some(start) = part {
             tokens.push(Token::Part(Span { start, end: at }))?;
         }
         Ok(tokens)
     }
 }
 
-// The brackets and parts of a line.
-pub fn tokens(heap: Global, line: &[u8]) -> Result<Vec<Token>, AllocError>
-    requires { length line.now ≤ 1024 }
-    ensures { IfOk result (λ v. v.items ≡ tokens_from 0 line.now) }
-{
-    let mut reader = Reader {
-        at: 0,
-        state: State::Between,
-        tokens: Vec::new(heap),
-    };
-    for b in line {
-        reader.take(class_of(*b))?;
+impl Line<'_> {
+    // The brackets and parts of the line.
+    pub fn tokens(&self) -> Result<Vec<Token>, AllocError>
+        ensures { IfOk result (λ v. v.items ≡ tokens_from 0 self.now.bytes.now) }
+    {
+        let mut reader = Reader {
+            at: 0,
+            part: None,
+            tokens: Vec::new(self.heap),
+        };
+        for b in self.bytes {
+            reader.take(Class::from(*b))?;
+        }
+        reader.finish()
     }
-    reader.finish()
 }

@@ -1,14 +1,18 @@
 // The shape of a line: its brackets, its head and its parts, with the parts that are numbers still unread.
-ghost use Rattle.std.specs.Prelude.{◌≡◌, ℕ, ◌+◌, ◌^◌, ◌<◌, ◌≤◌, [], ◌∷◌, ◌++◌, length, IfOk};
-ghost use Rattle.std.specs.Str.{bytes_eq};
+ghost use Rattle.std.specs.Prelude.{◌≡◌, ℕ, ◌+◌, ◌^◌, ◌<◌, ◌≤◌, [], length, IfOk};
 ghost use Rattle.lines.specs.declared.fault.Stop.TheVariants.{Refusal};
 ghost use Rattle.lines.specs.Said.{Says};
 ghost use Rattle.lines.specs.Run.{run};
-ghost use Rattle.lines.specs.Shape.{outline, deeper, unpaired_at, first, rest, as_opening, as_closing, as_end, as_part, as_more, taken, left, Gave, head_of, permits, head_part, top_of, rule_of, lex_of, scale_named, scale_of, parts_on, ladder_of, say_of, by_head, shape_of};
+ghost use Rattle.lines.specs.Form.{misfit_at};
+ghost use Rattle.lines.specs.Shape.{deeper, unpaired_at, first, rest, as_opening, as_closing, as_end, as_part, as_more, taken, left, Gave, head_of, permits, head_part, top_of, rule_of, lex_of, scale_named, scale_of, parts_on, by_head, shape_of, shown};
 
-use crate::fault::Stop;
+use crate::fault::{LineFault, Stop};
+use crate::form::Form;
+use crate::line::Line;
 use crate::reader::{Span, Token};
+use refusals::Refusal;
 use std::alloc::Global;
+use std::slice::Iter;
 
 #[derive(Clone, Copy, PartialEq, Eq, Debug)]
 pub enum ScaleName {
@@ -35,13 +39,33 @@ pub enum Head {
     Say,
 }
 
-// What comes next in a line: a token, or its end.
-#[derive(Clone, Copy)]
-pub enum Ahead {
-    Opens(u16),
-    Closes(u16),
-    Has(Span),
-    End,
+impl Head {
+    fn named(word: &[u8]) -> Option<Head>
+        ensures { result ≡ head_of word.now }
+    {
+        match word {
+            b"top" => Some(Head::Top),
+            b"rule" => Some(Head::Rule),
+            b"lex" => Some(Head::Lex),
+            b"scale" => Some(Head::Scale),
+            b"ladder" => Some(Head::Ladder),
+            b"say" => Some(Head::Say),
+            _ => None,
+        }
+    }
+}
+
+impl Allowed {
+    fn permits(self, head: Head) -> bool
+        ensures { result ≡ permits self head }
+    {
+        match head {
+            Head::Top | Head::Rule | Head::Lex => self.grammar,
+            Head::Scale => self.scale,
+            Head::Ladder => self.ladder,
+            Head::Say => true,
+        }
+    }
 }
 
 // What does not fit the form of a line: the token at a place, or one that is missing.
@@ -51,39 +75,25 @@ pub enum Misfit {
     Missing,
 }
 
+impl Misfit {
+    // The fault of a line that ends at `end`; what is missing is missing there.
+    pub fn fault(self, end: u16) -> LineFault
+        ensures { result ≡ misfit_at end self }
+    {
+        let at = match self {
+            Misfit::At(at) => at,
+            Misfit::Missing => end,
+        };
+        LineFault::at(Refusal::WrongForm, usize::from(at))
+    }
+}
+
 impl From<Misfit> for Stop<Misfit> {
     ghost from_gives = { λ e r. r ≡ Refusal e };
 
     fn from(e: Misfit) -> Stop<Misfit> {
         Stop::Refusal(e)
     }
-}
-
-// What a line says, with its numbers as places in it.
-#[derive(Drop)]
-pub enum Shape {
-    Top {
-        category: Span,
-    },
-    Chain {
-        weight: Span,
-        category: Span,
-        part: Span,
-    },
-    Binary {
-        weight: Span,
-        category: Span,
-        left: Span,
-        right: Span,
-    },
-    Lexical {
-        weight: Span,
-        category: Span,
-        word: Span,
-    },
-    Scale(ScaleName),
-    Ladder(Vec<Span>),
-    Say(Vec<Span>),
 }
 
 // How many brackets are open after a token, or the place of a closing one with none open.
@@ -122,196 +132,121 @@ pub fn unpaired_at(tokens: &[Token], end: u16) -> Option<u16>
     }
 }
 
-fn is_word(part: &[u8], word: &[u8]) -> bool
-    ensures { result ≡ bytes_eq part.now word.now }
-{
-    part == word
-}
-
-fn head_of(word: &[u8]) -> Option<Head>
-    ensures { result ≡ head_of word.now }
-{
-    if is_word(word, b"top") {
-        Some(Head::Top)
-    } else if is_word(word, b"rule") {
-        Some(Head::Rule)
-    } else if is_word(word, b"lex") {
-        Some(Head::Lex)
-    } else if is_word(word, b"scale") {
-        Some(Head::Scale)
-    } else if is_word(word, b"ladder") {
-        Some(Head::Ladder)
-    } else if is_word(word, b"say") {
-        Some(Head::Say)
-    } else {
-        None
-    }
-}
-
-fn permits(allowed: Allowed, head: Head) -> bool
-    ensures { result ≡ permits allowed head }
-{
-    match head {
-        Head::Top | Head::Rule | Head::Lex => allowed.grammar,
-        Head::Scale => allowed.scale,
-        Head::Ladder => allowed.ladder,
-        Head::Say => true,
-    }
-}
-
+// The name of a scale, which stands at `span`.
 fn scale_named(span: Span, word: &[u8]) -> Result<ScaleName, Misfit>
     ensures { result ≡ scale_named span word.now }
 {
-    if is_word(word, b"sum") {
-        Ok(ScaleName::Sum)
-    } else if is_word(word, b"worst") {
-        Ok(ScaleName::Worst)
-    } else {
-        Err(Misfit::At(span.start))
+    match word {
+        b"sum" => Ok(ScaleName::Sum),
+        b"worst" => Ok(ScaleName::Worst),
+        _ => Err(Misfit::At(span.start)),
     }
 }
 
-fn as_opening(ahead: Ahead) -> Result<(), Misfit>
-    ensures { result ≡ as_opening ahead }
+// The next token of a line, or its end, as what is wanted there. A part or an opening bracket is missing where a
+// closing bracket or the end comes.
+fn opening(next: Option<Token>) -> Result<(), Misfit>
+    ensures { result ≡ as_opening next }
 {
-    match ahead {
-        Ahead::Opens(_) => Ok(()),
-        Ahead::Has(span) => Err(Misfit::At(span.start)),
-        Ahead::Closes(_) | Ahead::End => Err(Misfit::Missing),
+    match next {
+        Some(Token::Opening { .. }) => Ok(()),
+        Some(Token::Part(span)) => Err(Misfit::At(span.start)),
+        Some(Token::Closing { .. }) | None => Err(Misfit::Missing),
     }
 }
 
-fn as_closing(ahead: Ahead) -> Result<(), Misfit>
-    ensures { result ≡ as_closing ahead }
+fn closing(next: Option<Token>) -> Result<(), Misfit>
+    ensures { result ≡ as_closing next }
 {
-    match ahead {
-        Ahead::Closes(_) => Ok(()),
-        Ahead::Opens(at) => Err(Misfit::At(at)),
-        Ahead::Has(span) => Err(Misfit::At(span.start)),
-        Ahead::End => Err(Misfit::Missing),
+    match next {
+        Some(Token::Closing { .. }) => Ok(()),
+        Some(token) => Err(Misfit::At(token.start())),
+        None => Err(Misfit::Missing),
     }
 }
 
-fn as_end(ahead: Ahead) -> Result<(), Misfit>
-    ensures { result ≡ as_end ahead }
+fn end(next: Option<Token>) -> Result<(), Misfit>
+    ensures { result ≡ as_end next }
 {
-    match ahead {
-        Ahead::End => Ok(()),
-        Ahead::Opens(at) | Ahead::Closes(at) => Err(Misfit::At(at)),
-        Ahead::Has(span) => Err(Misfit::At(span.start)),
+    match next {
+        None => Ok(()),
+        Some(token) => Err(Misfit::At(token.start())),
     }
 }
 
-fn as_part(ahead: Ahead) -> Result<Span, Misfit>
-    ensures { result ≡ as_part ahead }
+fn part(next: Option<Token>) -> Result<Span, Misfit>
+    ensures { result ≡ as_part next }
 {
-    match ahead {
-        Ahead::Has(span) => Ok(span),
-        Ahead::Opens(at) => Err(Misfit::At(at)),
-        Ahead::Closes(_) | Ahead::End => Err(Misfit::Missing),
+    match next {
+        Some(Token::Part(span)) => Ok(span),
+        Some(Token::Opening { at }) => Err(Misfit::At(at)),
+        Some(Token::Closing { .. }) | None => Err(Misfit::Missing),
     }
 }
 
-fn as_more(ahead: Ahead) -> Result<Option<Span>, Misfit>
-    ensures { result ≡ as_more ahead }
+// One more part, or the closing bracket.
+fn more(next: Option<Token>) -> Result<Option<Span>, Misfit>
+    ensures { result ≡ as_more next }
 {
-    match ahead {
-        Ahead::Has(span) => Ok(Some(span)),
-        Ahead::Closes(_) => Ok(None),
-        Ahead::Opens(at) => Err(Misfit::At(at)),
-        Ahead::End => Err(Misfit::Missing),
-    }
-}
-
-fn as_ahead(token: Token) -> Ahead
-    ensures { result ≡ first (token ∷ []) }
-{
-    match token {
-        Token::Opening { at } => Ahead::Opens(at),
-        Token::Closing { at } => Ahead::Closes(at),
-        Token::Part(span) => Ahead::Has(span),
+    match next {
+        Some(Token::Closing { .. }) => Ok(None),
+        _ => part(next).map(Some),
     }
 }
 
 // What is left of the tokens of a line.
 #[derive(Drop)]
 pub struct Cursor<'a> {
-    rest: &'a [Token],
+    rest: Iter<'a, Token>,
 }
 
 impl<'a> Cursor<'a> {
-    fn next(&mut self) -> Ahead
-        ensures value { result ≡ first (left self.old) }
+    // What `read` makes of the next token, or of the end of the line.
+    fn take<T, F: FnOnce(Option<Token>) -> Result<T, Misfit>>(
+        &mut self,
+        read: F,
+    ) -> Result<T, Misfit>
+        requires { F.pre read (first (left self.old)) }
+        ensures read { F.post read (first (left self.old)) result }
         ensures after { left self.new ≡ rest (left self.old) }
     {
-        match self.rest {
-            [token, rest @ ..] => {
-                let token = *token;
-                self.rest = rest;
-                as_ahead(token)
-            }
-            [] => Ahead::End,
-        }
+        read(self.rest.next().copied())
     }
 
-    fn opening(&mut self) -> Result<(), Misfit>
-        ensures { Gave (λ x. x) result (left self.new) (taken as_opening (left self.old)) }
+    fn head(&mut self, line: &Line<'_>) -> Result<Head, Misfit>
+        ensures { Gave (λ x. x) result (left self.new) (head_part line.now.allowed line.now.bytes.now (left self.old)) }
     {
-        as_opening(self.next())
-    }
-
-    fn closing(&mut self) -> Result<(), Misfit>
-        ensures { Gave (λ x. x) result (left self.new) (taken as_closing (left self.old)) }
-    {
-        as_closing(self.next())
-    }
-
-    fn part(&mut self) -> Result<Span, Misfit>
-        ensures { Gave (λ x. x) result (left self.new) (taken as_part (left self.old)) }
-    {
-        as_part(self.next())
-    }
-
-    fn more(&mut self) -> Result<Option<Span>, Misfit>
-        ensures { Gave (λ x. x) result (left self.new) (taken as_more (left self.old)) }
-    {
-        as_more(self.next())
-    }
-
-    fn head(&mut self, allowed: Allowed, line: &[u8]) -> Result<Head, Misfit>
-        ensures { Gave (λ x. x) result (left self.new) (head_part allowed line.now (left self.old)) }
-    {
-        let span = self.part()?;
-        match head_of(span.of(line)) {
-            Some(head) if permits(allowed, head) => Ok(head),
+        let span = self.take(part)?;
+        match Head::named(span.of(line.bytes)) {
+            Some(head) if line.allowed.permits(head) => Ok(head),
             _ => Err(Misfit::At(span.start)),
         }
     }
 
-    fn top(&mut self) -> Result<Shape, Misfit>
-        ensures { Gave outline result (left self.new) (top_of (left self.old)) }
+    fn top(&mut self) -> Result<Form<Span>, Misfit>
+        ensures { Gave shown result (left self.new) (top_of (left self.old)) }
     {
-        let category = self.part()?;
-        self.closing()?;
-        Ok(Shape::Top { category })
+        let category = self.take(part)?;
+        self.take(closing)?;
+        Ok(Form::Top { category })
     }
 
-    fn rule(&mut self) -> Result<Shape, Misfit>
-        ensures { Gave outline result (left self.new) (rule_of (left self.old)) }
+    fn rule(&mut self) -> Result<Form<Span>, Misfit>
+        ensures { Gave shown result (left self.new) (rule_of (left self.old)) }
     {
-        let weight = self.part()?;
-        self.opening()?;
-        let category = self.part()?;
-        let left = self.part()?;
-        let shape = match self.more()? {
-            None => Shape::Chain {
+        let weight = self.take(part)?;
+        self.take(opening)?;
+        let category = self.take(part)?;
+        let left = self.take(part)?;
+        let shape = match self.take(more)? {
+            None => Form::Chain {
                 weight,
                 category,
                 part: left,
             },
             Some(right) => {
-                self.closing()?;
-                Shape::Binary {
+                self.take(closing)?;
+                Form::Binary {
                     weight,
                     category,
                     left,
@@ -319,33 +254,33 @@ impl<'a> Cursor<'a> {
                 }
             }
         };
-        self.closing()?;
+        self.take(closing)?;
         Ok(shape)
     }
 
-    fn lexical(&mut self) -> Result<Shape, Misfit>
-        ensures { Gave outline result (left self.new) (lex_of (left self.old)) }
+    fn lexical(&mut self) -> Result<Form<Span>, Misfit>
+        ensures { Gave shown result (left self.new) (lex_of (left self.old)) }
     {
-        let weight = self.part()?;
-        self.opening()?;
-        let category = self.part()?;
-        let word = self.part()?;
-        self.closing()?;
-        self.closing()?;
-        Ok(Shape::Lexical {
+        let weight = self.take(part)?;
+        self.take(opening)?;
+        let category = self.take(part)?;
+        let word = self.take(part)?;
+        self.take(closing)?;
+        self.take(closing)?;
+        Ok(Form::Lexical {
             weight,
             category,
             word,
         })
     }
 
-    fn scale(&mut self, line: &[u8]) -> Result<Shape, Misfit>
-        ensures { Gave outline result (left self.new) (scale_of line.now (left self.old)) }
+    fn scale(&mut self, line: &Line<'_>) -> Result<Form<Span>, Misfit>
+        ensures { Gave shown result (left self.new) (scale_of line.now.bytes.now (left self.old)) }
     {
-        let span = self.part()?;
-        let name = scale_named(span, span.of(line))?;
-        self.closing()?;
-        Ok(Shape::Scale(name))
+        let span = self.take(part)?;
+        let name = scale_named(span, span.of(line.bytes))?;
+        self.take(closing)?;
+        Ok(Form::Scale(name))
     }
 
     // The parts up to a closing bracket.
@@ -353,39 +288,38 @@ impl<'a> Cursor<'a> {
         ensures { Says (λ v. (v.items, left self.new)) result (parts_on [] (left self.old)) }
     {
         let mut parts = Vec::new(heap);
-        while let Some(part) = self.more()? {
+        while let Some(part) = self.take(more)? {
             parts.push(part)?;
         }
         Ok(parts)
     }
 
-    fn by_head(&mut self, heap: Global, line: &[u8], head: Head) -> Result<Shape, Stop<Misfit>>
-        ensures { Says (λ s. (outline s, left self.new)) result (by_head line.now (left self.old) head) }
+    fn by_head(&mut self, line: &Line<'_>, head: Head) -> Result<Form<Span>, Stop<Misfit>>
+        ensures { Says (λ s. (shown s, left self.new)) result (by_head line.now.bytes.now (left self.old) head) }
     {
         Ok(match head {
             Head::Top => self.top()?,
             Head::Rule => self.rule()?,
             Head::Lex => self.lexical()?,
             Head::Scale => self.scale(line)?,
-            Head::Ladder => Shape::Ladder(self.parts(heap)?),
-            Head::Say => Shape::Say(self.parts(heap)?),
+            Head::Ladder => Form::Ladder(self.parts(line.heap)?),
+            Head::Say => Form::Say(self.parts(line.heap)?),
         })
     }
 }
 
-// The shape that the tokens of a line make.
-pub fn shape_of(
-    heap: Global,
-    allowed: Allowed,
-    line: &[u8],
-    tokens: &[Token],
-) -> Result<Shape, Stop<Misfit>>
-    ensures { Says outline result (shape_of allowed line.now tokens.now) }
-{
-    let mut cursor = Cursor { rest: tokens };
-    cursor.opening()?;
-    let head = cursor.head(allowed, line)?;
-    let shape = cursor.by_head(heap, line, head)?;
-    as_end(cursor.next())?;
-    Ok(shape)
+impl Line<'_> {
+    // The shape that the tokens of the line make.
+    pub fn shape(&self, tokens: &[Token]) -> Result<Form<Span>, Stop<Misfit>>
+        ensures { Says shown result (shape_of self.now.allowed self.now.bytes.now tokens.now) }
+    {
+        let mut cursor = Cursor {
+            rest: tokens.iter(),
+        };
+        cursor.take(opening)?;
+        let head = cursor.head(self)?;
+        let shape = cursor.by_head(self, head)?;
+        cursor.take(end)?;
+        Ok(shape)
+    }
 }

@@ -14,7 +14,7 @@ fn tell_spans(out: &mut String, weight: u16, spans: &[Span]) -> Result<(), Alloc
     writeln!(out, "{weight} {spans:?}")
 }
 
-fn tell_form(out: &mut String, form: Form) -> Result<(), AllocError> {
+fn tell_form(out: &mut String, form: Form<u16>) -> Result<(), AllocError> {
     match form {
         Form::Top { category } => tell_spans(out, 0, &[category]),
         Form::Chain {
