@@ -1,7 +1,4 @@
-pub mod Tiles
-pub mod Named
-pub mod Some
-pub mod Fits
-pub mod Tried
 pub mod Numbers
+pub mod Named
+pub mod Fits
 pub mod Added

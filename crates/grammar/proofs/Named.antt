@@ -1,73 +1,119 @@
--- What the ghost of a table of names tells of its places, and what reading, adding and cutting do to the names.
-use Rattle.std.proofs.Common.{◌≡◌, ℕ, ◌+◌, ◌-◌, ◌<◌, ◌≤◌, true, false, not, List, [], ◌∷◌, ◌++◌, length, get_or, take, drop, vec_items, vec_len, sym, ap, ◌∙◌, subst, arith}
-use Rattle.std.specs.Str.{bytes_eq}
-use Rattle.std.proofs.lemmas.List.{length-map, get_or-map, get_or_past, map_push, take-map, take-append-le, take_all, drop_at, take-take}
-use Rattle.std.proofs.lemmas.List.Sums.{prefix_len-drop_yes, prefix_len-drop_no, prefix_len-drop_all}
-use Rattle.grammar.specs.declared.place.Place.{Place}
-use Rattle.grammar.specs.declared.names.Names.{Names}
-use Rattle.grammar.specs.Places.{spelling, spellings, tiles, number_of}
-use Rattle.grammar.specs.Listed.{listed}
-use Rattle.grammar.proofs.Tiles.{tiles_at, tiles_push, tiles_cut, spellings_same, Inside}
+-- The steps of a line: its names get their numbers.
+use Rattle.std.proofs.Common.{◌≡◌, ℕ, ◌<◌, ◌≤◌, Bool, true, false, cond, ltb, List, [], ◌∷◌, length, take, Ok, Err, Result, refl, ap, ◌∙◌, subst, inl, inr, arith}
+use Rattle.std.proofs.lemmas.Bool.{cases_Bool, ltb-true}
+use Rattle.std.proofs.lemmas.List.{get_or_push, length-take, length_push, take-append-le, take_all}
+use Rattle.refusals.specs.declared.Refusal.{Refusal}
+use Rattle.refusals.specs.declared.Refusal.TheVariants.{GrammarFull}
+use Rattle.lines.specs.Run.{on_ok}
+use Rattle.grammar.specs.declared.flaw.Flaw.{Flaw}
+use Rattle.grammar.specs.declared.flaw.Part.{Part}
+use Rattle.grammar.specs.declared.flaw.Part.TheVariants.{Line, Category, First}
+use Rattle.grammar.specs.Listed.{number_of}
+use Rattle.grammar.specs.Seen.{Seen, rules}
+use Rattle.grammar.specs.Adding.{at_part, entering, naming, heading, wording, with_categories, with_words}
+use Rattle.grammar.specs.Added.{Spells}
+use Rattle.grammar.proofs.Numbers.{number_found}
 
-pub count : (n : Names) → length (listed n) ≡ vec_len n.places
-count n = length-map (vec_items n.places) (spelling (vec_items n.text)) ∙ sym n.places.ok.0
+-- what equal answers tell
+pub ok_same : {X E : Type 0} (x y : X) → ◌≡◌ {A = Result X E} (Ok x) (Ok y) → x ≡ y
+ok_same x y h = cc
 
--- a place that is read
-pub inside : (n : Names) (k : ℕ) (p : Place) → k < vec_len n.places → p ≡ get_or (vec_items n.places) k p → Inside 0 p (vec_len n.text)
-inside n k p l e =
-    let lt : k < length (vec_items n.places) = omega (arith, n.places.ok.0) in
-    subst (λ q. Inside 0 q (vec_len n.text)) (sym e) (tiles_at 0 (vec_len n.text) (vec_items n.places) k p lt n.tiled)
+pub err_not_ok : {X E : Type 0} (e : E) (x : X) → ◌≡◌ {A = Result X E} (Err e) (Ok x) → ⊥
+err_not_ok e x h = cc
 
-pub read : (n : Names) (k : ℕ) (p : Place) → k < vec_len n.places → p ≡ get_or (vec_items n.places) k p → spelling (vec_items n.text) p ≡ get_or (listed n) k []
-read n k p l e =
-    let lt : k < length (vec_items n.places) = omega (arith, n.places.ok.0) in
-    ap (spelling (vec_items n.text)) e ∙ sym (get_or-map (spelling (vec_items n.text)) (vec_items n.places) k p [] lt)
+-- the step that an answer came by
+pub record Step {X Y E : Type 0} (d : Result X E) (f : X → Result Y E) (y : Y) : Type 0 where
+  pub x : X
+  pub is : d ≡ Ok x
+  pub next : f x ≡ Ok y
 
-pub past : (n : Names) (k : ℕ) → vec_len n.places ≤ k → get_or (listed n) k [] ≡ []
-past n k l = get_or_past (listed n) k [] (omega (arith, count n))
+pub step : {X Y E : Type 0} (d : Result X E) (f : X → Result Y E) (y : Y) → on_ok d f ≡ Ok y → Step d f y
+step (Ok x) f y h = record { x = x; is = refl; next = h }
+step (Err e) f y h = absurd (err_not_ok e y h)
 
--- the first k names, in the text up to where the next one begins
-pub cut_tiles : (n : Names) (k : ℕ) (p : Place) → k < vec_len n.places → p ≡ get_or (vec_items n.places) k p → tiles 0 (take k (vec_items n.places)) p.start ≡ true
-cut_tiles n k p l e =
-    let lt : k < length (vec_items n.places) = omega (arith, n.places.ok.0) in
-    subst (λ q. tiles 0 (take k (vec_items n.places)) q.start ≡ true) (sym e) (tiles_cut 0 (vec_len n.text) (vec_items n.places) k p lt n.tiled)
+-- what is due unless a test is true
+pub otherwise : {X : Type 0} (b : Bool) (e : Flaw) (r : Result X Flaw) (x : X) → cond b (Err e) r ≡ Ok x → r ≡ Ok x
+otherwise true e r x h = absurd (err_not_ok e x h)
+otherwise false e r x h = h
 
-pub cut_names : (n : Names) (k : ℕ) (p : Place) → k < vec_len n.places → p ≡ get_or (vec_items n.places) k p → spellings (take p.start (vec_items n.text)) (take k (vec_items n.places)) ≡ take k (listed n)
-cut_names n k p l e =
-    let text = vec_items n.text in
-    let ps = take k (vec_items n.places) in
-    spellings_same 0 p.start ps (take p.start text) text (cut_tiles n k p l e) (take-take p.start p.start text (omega arith)) ∙ sym (take-map (spelling text) k (vec_items n.places))
+placed : {X : Type 0} (part : Part) (r : Result X Refusal) (x : X) → at_part part r ≡ Ok x → r ≡ Ok x
+placed part (Ok y) x h = cc
+placed part (Err e) x h = absurd (err_not_ok _ x h)
 
-pub uncut : (n : Names) (k : ℕ) → vec_len n.places ≤ k → listed n ≡ take k (listed n)
-uncut n k l = sym (take_all k (listed n) (omega (arith, count n)))
+pub whole : (names : List (List ℕ)) → take (length names) names ≡ names
+whole names = take_all (length names) names (omega arith)
 
--- one more name, at the end of the text
-pub push_tiles : (n : Names) (start end : ℕ) → start ≡ vec_len n.text → start ≤ end → tiles 0 (vec_items n.places ++ record { start = start; end = end } ∷ []) end ≡ true
-push_tiles n start end is l = tiles_push 0 start end (vec_items n.places) l (subst (λ to. tiles 0 (vec_items n.places) to ≡ true) (sym is) n.tiled)
+-- the names held stay in front, and the number is that of a name spelled so
+record Entered (names : List (List ℕ)) (name : List ℕ) (k : ℕ) (more : List (List ℕ)) : Type 0 where
+  pub front : take (length names) more ≡ names
+  pub spells : Spells more k name
 
-pub push_names : (n : Names) (name : List ℕ) (start end : ℕ) → start ≡ vec_len n.text → end ≡ start + length name → spellings (vec_items n.text ++ name) (vec_items n.places ++ record { start = start; end = end } ∷ []) ≡ listed n ++ name ∷ []
-push_names n name start end is e =
-    let text = vec_items n.text in
-    let ps = vec_items n.places in
-    let to = vec_len n.text in
-    let long : length text ≡ start = omega (arith, n.text.ok.0) in
-    let old : spellings (text ++ name) ps ≡ listed n = spellings_same 0 to ps (text ++ name) text n.tiled (take-append-le to text name (omega arith)) in
-    let new : take (end - start) (drop start (text ++ name)) ≡ name = ap (take (end - start)) (drop_at text name start long) ∙ take_all (end - start) name (omega arith) in
-    map_push (spelling (text ++ name)) ps (record { start = start; end = end }) ∙ cc
+entered : (most : ℕ) (names : List (List ℕ)) (name : List ℕ) (k : ℕ) (more : List (List ℕ)) → entering most names name ≡ Ok (k, more) → Entered names name k more
+entered most names name k more h =
+    let at : (a : ℕ) (xs : List (List ℕ)) → ◌≡◌ {A = Result (ℕ × List (List ℕ)) Refusal} (Ok (a, xs)) (Ok (k, more)) → Entered names name a xs → Entered names name k more =
+    λ a xs e here. subst (λ (p : ℕ × List (List ℕ)). Entered names name p.0 p.1) (ok_same (a, xs) (k, more) e) here in
+    elim (cases_Bool (ltb (number_of names name) (length names))) [
+      | inl t ↦
+          let held : number_of names name < length names = ltb-true _ _ t in
+          at _ _ (rw t at h) (record { front = whole names; spells = record { inside = held; is = number_found names name held } })
+      | inr t ↦ elim (cases_Bool (ltb (length names) most)) [
+        | inl u ↦
+            let long = length_push names name in
+            at _ _ (rw (t, u) at h) (record { front = take-append-le (length names) names (name ∷ []) (omega arith) ∙ whole names; spells = record { inside = omega arith; is = get_or_push names name [] (length names) refl } })
+        | inr u ↦ absurd (err_not_ok GrammarFull (k, more) (rw (t, u) at h))
+      ]
+    ]
 
--- the search for a name: one turn, a find, and the end
-pub passed : (names : List (List ℕ)) (name : List ℕ) (k : ℕ) → k < length names → bytes_eq (get_or names k []) name ≡ false → number_of (drop k names) name ≡ 1 + number_of (drop (k + 1) names) name
-passed names name k l h = prefix_len-drop_yes (λ other. not (bytes_eq other name)) names k [] l (ap not h)
+-- a name that got its number among names; w is the draft with other such names
+pub record NameAdded (w : List (List ℕ) → Seen) (names : List (List ℕ)) (name : List ℕ) (k : ℕ) (t : Seen) : Type 0 where
+  pub more : List (List ℕ)
+  pub is : t ≡ w more
+  pub front : take (length names) more ≡ names
+  pub spells : Spells more k name
 
-pub found : (names : List (List ℕ)) (name : List ℕ) (k : ℕ) → k < length names → bytes_eq (get_or names k []) name ≡ true → number_of (drop k names) name ≡ 0
-found names name k l h = prefix_len-drop_no (λ other. not (bytes_eq other name)) names k [] l (ap not h)
+name_added : (w : List (List ℕ) → Seen) (most : ℕ) (names : List (List ℕ)) (name : List ℕ) (part : Part) (p : ℕ × Seen) → on_ok (at_part part (entering most names name)) (λ q. Ok (q.0, w q.1)) ≡ Ok p → NameAdded w names name p.0 p.1
+name_added w most names name part p h =
+    let one = step (at_part part (entering most names name)) (λ q. Ok (q.0, w q.1)) p h in
+    let e = entered most names name one.x.0 one.x.1 (placed part _ one.x one.is) in
+    subst (λ (q : ℕ × Seen). NameAdded w names name q.0 q.1) (ok_same (one.x.0, w one.x.1) p one.next) (record { more = one.x.1; is = refl; front = e.front; spells = e.spells })
 
-pub missed : (names : List (List ℕ)) (name : List ℕ) (k : ℕ) → length names ≤ k → number_of (drop k names) name ≡ 0
-missed names name k l = prefix_len-drop_all (λ other. not (bytes_eq other name)) names k l
+abbrev pub CategoryNamed : Seen → List ℕ → ℕ → Seen → Type 0
+CategoryNamed s = NameAdded (with_categories s) s.categories
 
--- a text and places that are equal to others give the same names
-pub by_parts : {t u : List ℕ} {ps qs : List Place} {names : List (List ℕ)} → t ≡ u → ps ≡ qs → spellings u qs ≡ names → spellings t ps ≡ names
-by_parts {u = u} {ps = ps} e f h = ap (λ x. spellings x ps) e ∙ ap (spellings u) f ∙ h
+abbrev pub WordNamed : Seen → List ℕ → ℕ → Seen → Type 0
+WordNamed s = NameAdded (with_words s) s.words
 
-pub by_places : {ps qs : List Place} {m n : ℕ} → ps ≡ qs → m ≡ n → tiles 0 qs n ≡ true → tiles 0 ps m ≡ true
-by_places {ps = ps} {n = n} e f h = ap (tiles 0 ps) f ∙ ap (λ x. tiles 0 x n) e ∙ h
+pub category_named : (part : Part) (s : Seen) (name : List ℕ) (p : ℕ × Seen) → naming part s name ≡ Ok p → CategoryNamed s name p.0 p.1
+category_named part s name p h = name_added (with_categories s) s.limit s.categories name part p h
+
+pub word_named : (s : Seen) (name : List ℕ) (p : ℕ × Seen) → wording s name ≡ Ok p → WordNamed s name p.0 p.1
+word_named s name p h = name_added (with_words s) 512 s.words name First p h
+
+-- with room for one more rule
+pub record HeadNamed (s : Seen) (name : List ℕ) (k : ℕ) (t : Seen) : Type 0 where
+  pub room : rules s < 1024
+  pub category : CategoryNamed s name k t
+
+pub head_named : (s : Seen) (name : List ℕ) (p : ℕ × Seen) → heading s name ≡ Ok p → HeadNamed s name p.0 p.1
+head_named s name p h = elim (cases_Bool (ltb (rules s) 1024)) [
+  | inl t ↦ record { room = ltb-true _ _ t; category = category_named Category s name p (rw t at h) }
+  | inr t ↦ absurd (err_not_ok (record { refusal = GrammarFull; part = Line }) p (rw t at h))
+]
+
+-- how many names and rules there are then
+pub record Counted (s : Seen) (k : ℕ) (names more : List (List ℕ)) (t : Seen) : Type 0 where
+  pub same : rules t ≡ rules s
+  pub below : k < length more
+  pub longer : length names ≤ length more
+
+pub counted : (s : Seen) (name : List ℕ) (k : ℕ) (t : Seen) → CategoryNamed s name k t → Counted s k s.categories t.categories t
+counted s name k t n =
+    let at = ap (λ x. length x.categories) n.is in
+    let long = simp length-take at (ap length n.front) in
+    record { same = ap rules n.is; below = omega (arith, n.spells.inside); longer = omega arith }
+
+pub counted_word : (s : Seen) (name : List ℕ) (k : ℕ) (t : Seen) → WordNamed s name k t → Counted s k s.words t.words t × (length t.categories ≡ length s.categories)
+counted_word s name k t n =
+    let at = ap (λ x. length x.words) n.is in
+    let long = simp length-take at (ap length n.front) in
+    (record { same = ap rules n.is; below = omega (arith, n.spells.inside); longer = omega arith }, ap (λ x. length x.categories) n.is)

@@ -1,6 +1,7 @@
 -- What it is to add a line to a draft: its names get their numbers, and then the rule or the top stands there.
 -- The checks come in the order of the refusals' numbers.
-use Rattle.std.specs.Prelude.{ℕ, Bool, false, cond, ◌&&◌, ◌||◌, List, [], ◌∷◌, ◌++◌, length, is_some, Some, Ok, Err, Result, ◌==◌, nat_lt}
+use Rattle.std.specs.Prelude.{ℕ, Bool, false, cond, ◌&&◌, List, [], ◌∷◌, ◌++◌, length, is_some, Some, Ok, Err, Result, ◌==◌, nat_lt}
+use Rattle.std.specs.List.{list_any}
 use Rattle.refusals.specs.declared.Refusal.{Refusal}
 use Rattle.refusals.specs.declared.Refusal.TheVariants.{GrammarFull, Duplicate, SelfChain, WrongTop}
 use Rattle.derivation.specs.declared.rules.WordRule.{WordRule}
@@ -10,7 +11,7 @@ use Rattle.lines.specs.Run.{on_ok}
 use Rattle.grammar.specs.declared.flaw.Flaw.{Flaw}
 use Rattle.grammar.specs.declared.flaw.Part.{Part}
 use Rattle.grammar.specs.declared.flaw.Part.TheVariants.{Line, Category, First, Second}
-use Rattle.grammar.specs.Places.{number_of}
+use Rattle.grammar.specs.Listed.{number_of}
 use Rattle.grammar.specs.Seen.{Seen, rules}
 
 -- a refusal at a part of the line
@@ -48,11 +49,6 @@ room s = cond (nat_lt (rules s) 1024) (Ok tt) (whole GrammarFull)
 abbrev pub heading : Seen → List ℕ → Result (ℕ × Seen) Flaw
 heading s name = on_ok (room s) (λ _. naming Category s name)
 
--- whether some element passes the test
-abbrev pub some : {X : Type 0} → (X → Bool) → List X → Bool
-some test [] = false
-some test (x ∷ xs) = test x || some test xs
-
 -- rules with the same symbols, whatever their weights
 abbrev pub same_lexical : WordRule → WordRule → Bool
 same_lexical r o = r.category == o.category && r.word == o.word
@@ -63,22 +59,30 @@ same_chains r o = r.category == o.category && r.part == o.part
 abbrev pub same_binaries : BinaryRule → BinaryRule → Bool
 same_binaries r o = r.category == o.category && (r.left == o.left && r.right == o.right)
 
--- a rule after those of its kind
+-- a rule after those of its kind: none with the same symbols is among them, and it chains no category to itself
+abbrev pub putting : {R : Type 0} → (R → R → Bool) → (R → Bool) → List R → R → Result (List R) Flaw
+putting same loops rules r =
+    cond (list_any (same r) rules) (whole Duplicate)
+    (cond (loops r) (whole SelfChain)
+    (Ok (rules ++ r ∷ [])))
+
+abbrev pub with_lexical : Seen → List WordRule → Seen
+with_lexical s rules = record { number = s.number; limit = s.limit; top = s.top; categories = s.categories; words = s.words; lexical = rules; chains = s.chains; binaries = s.binaries }
+
+abbrev pub with_chains : Seen → List ChainRule → Seen
+with_chains s rules = record { number = s.number; limit = s.limit; top = s.top; categories = s.categories; words = s.words; lexical = s.lexical; chains = rules; binaries = s.binaries }
+
+abbrev pub with_binaries : Seen → List BinaryRule → Seen
+with_binaries s rules = record { number = s.number; limit = s.limit; top = s.top; categories = s.categories; words = s.words; lexical = s.lexical; chains = s.chains; binaries = rules }
+
 abbrev pub put_lexical : Seen → WordRule → Result Seen Flaw
-put_lexical s r =
-    cond (some (same_lexical r) s.lexical) (whole Duplicate)
-    (Ok (record { number = s.number; limit = s.limit; top = s.top; categories = s.categories; words = s.words; lexical = s.lexical ++ r ∷ []; chains = s.chains; binaries = s.binaries }))
+put_lexical s r = on_ok (putting same_lexical (λ _. false) s.lexical r) (λ rules. Ok (with_lexical s rules))
 
 abbrev pub put_chain : Seen → ChainRule → Result Seen Flaw
-put_chain s r =
-    cond (some (same_chains r) s.chains) (whole Duplicate)
-    (cond (r.category == r.part) (whole SelfChain)
-    (Ok (record { number = s.number; limit = s.limit; top = s.top; categories = s.categories; words = s.words; lexical = s.lexical; chains = s.chains ++ r ∷ []; binaries = s.binaries })))
+put_chain s r = on_ok (putting same_chains (λ o. o.category == o.part) s.chains r) (λ rules. Ok (with_chains s rules))
 
 abbrev pub put_binary : Seen → BinaryRule → Result Seen Flaw
-put_binary s r =
-    cond (some (same_binaries r) s.binaries) (whole Duplicate)
-    (Ok (record { number = s.number; limit = s.limit; top = s.top; categories = s.categories; words = s.words; lexical = s.lexical; chains = s.chains; binaries = s.binaries ++ r ∷ [] }))
+put_binary s r = on_ok (putting same_binaries (λ _. false) s.binaries r) (λ rules. Ok (with_binaries s rules))
 
 abbrev pub put_top : Seen → ℕ → Result Seen Flaw
 put_top s t =

@@ -1,4 +1,3 @@
-pub mod Places
 pub mod Listed
 pub mod Seen
 pub mod Adding

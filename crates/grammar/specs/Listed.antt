@@ -1,7 +1,16 @@
--- What a table of names stands for: the spellings, in the order of their numbers.
-use Rattle.std.specs.Prelude.{ℕ, List, vec_items}
+-- What a table of names stands for: the spellings, each at the place of its number.
+use Rattle.std.specs.Prelude.{ℕ, List, map, vec_items, Option, position}
+use Rattle.std.specs.List.{position_or_len}
+use Rattle.std.specs.Str.{bytes_eq}
 use Rattle.grammar.specs.declared.names.Names.{Names}
-use Rattle.grammar.specs.Places.{spellings}
 
 abbrev pub listed : Names → List (List ℕ)
-listed n = spellings (vec_items n.text) (vec_items n.places)
+listed n = map vec_items (vec_items n.spellings)
+
+-- the number of a name: its place among the names; of a new name, the number that it gets when it is added
+abbrev pub number_of : List (List ℕ) → List ℕ → ℕ
+number_of names name = position_or_len (λ other. bytes_eq other name) names
+
+-- the number of a spelling that is among the names
+abbrev pub lookup : List (List ℕ) → List ℕ → Option ℕ
+lookup names name = position (λ other. bytes_eq other name) names

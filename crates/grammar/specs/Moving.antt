@@ -7,7 +7,6 @@ use Rattle.derivation.specs.declared.tables.Rules.{Rules}
 use Rattle.grammar.specs.declared.draft.Draft.{Draft}
 use Rattle.grammar.specs.declared.closed.Closed.{Closed}
 use Rattle.grammar.specs.declared.closed.Lease.{Lease}
-use Rattle.grammar.specs.Places.{number_of}
 use Rattle.grammar.specs.Listed.{listed}
 use Rattle.grammar.specs.Seen.{Seen}
 use Rattle.grammar.specs.Drafts.{seen}
@@ -56,10 +55,6 @@ taking_in g l = cond (fitting g l) (Ok tt) (Err (OtherGrammar, l))
 
 abbrev pub taken_in : Closed → Lease → Sealed
 taken_in g l = with_out g (cond (fitting g l) (g.out - 1) g.out)
-
--- the number of a spelling that is among the names
-abbrev pub lookup : List (List ℕ) → List ℕ → Option ℕ
-lookup names name = cond (nat_lt (number_of names name) (length names)) (Some (number_of names name)) None
 
 -- a number that is found is that of a name spelled so; where none is found, no name is spelled so
 abbrev pub Spelled : List (List ℕ) → List ℕ → Option ℕ → Type 0

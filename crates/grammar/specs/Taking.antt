@@ -11,7 +11,7 @@ use Rattle.grammar.specs.Seen.{Seen}
 use Rattle.grammar.specs.Adding.{adding_top, adding_lexical, adding_chain, adding_binary}
 
 -- the names are those that stand in the line; a form that is not about rules or the top adds nothing
-abbrev pub adding : Seen → List ℕ → Form → Result Seen Flaw
+abbrev pub adding : Seen → List ℕ → Form ℕ → Result Seen Flaw
 adding s line (Top a) = adding_top s (bytes_at line a)
 adding s line (Chain w a b) = adding_chain s w (bytes_at line a) (bytes_at line b)
 adding s line (Binary w a b c) = adding_binary s w (bytes_at line a) (bytes_at line b) (bytes_at line c)
@@ -21,7 +21,7 @@ adding s line (Ladder ts) = Ok s
 adding s line (Say ws) = Ok s
 
 -- where a part of the form starts, counted from 0; the line itself, and what it lacks, at 0
-abbrev pub start_of : Form → Part → ℕ
+abbrev pub start_of : Form ℕ → Part → ℕ
 start_of (Top a) Line = 0
 start_of (Top a) Category = a.start
 start_of (Top a) First = 0
@@ -43,9 +43,9 @@ start_of (Ladder ts) part = 0
 start_of (Say ws) part = 0
 
 -- bytes are counted from 1
-abbrev pub byte_of : {X : Type 0} → Form → Result X Flaw → Result X LineFault
+abbrev pub byte_of : {X : Type 0} → Form ℕ → Result X Flaw → Result X LineFault
 byte_of form (Ok x) = Ok x
 byte_of form (Err f) = Err (record { refusal = f.refusal; byte = start_of form f.part + 1 })
 
-abbrev pub taking : Seen → List ℕ → Form → Result Seen LineFault
+abbrev pub taking : Seen → List ℕ → Form ℕ → Result Seen LineFault
 taking s line form = byte_of form (adding s line form)

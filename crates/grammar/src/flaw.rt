@@ -18,3 +18,18 @@ pub struct Flaw {
     pub refusal: Refusal,
     pub part: Part,
 }
+
+// A refusal of the line as a whole.
+impl From<Refusal> for Flaw {
+    ghost use Rattle.std.specs.Prelude.{◌≡◌};
+    ghost use Rattle.grammar.specs.declared.flaw.Part.TheVariants.{Line};
+
+    ghost from_gives = { λ e r. r ≡ record { refusal = e; part = Line } };
+
+    fn from(refusal: Refusal) -> Flaw {
+        Flaw {
+            refusal,
+            part: Part::Line,
+        }
+    }
+}

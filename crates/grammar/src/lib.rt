@@ -9,8 +9,6 @@ mod draft;
 mod flaw;
 mod moving;
 mod names;
-mod naming;
-mod place;
 mod symbols;
 mod taking;
 #[cfg(test)]
@@ -22,8 +20,6 @@ pub use flaw::{Flaw, Part};
 
 // Holds the theorem by its name: a line that is taken adds one rule, or the top, whose numbers are those of the names in the line, and nothing else;
 // the names held keep their numbers.
-pub fn lines_add_what_they_say() -> u8
+pub fn lines_add_what_they_say()
     ensures { LinesAddWhatTheySay }
-{
-    0
-}
+{}

@@ -1,7 +1,7 @@
 // Closing a draft, reopening a closed grammar, leases, and what can be asked of a closed grammar.
 ghost use Rattle.std.specs.Prelude.{◌≡◌, [], slice_index_or};
-ghost use Rattle.grammar.specs.Listed.{listed};
-ghost use Rattle.grammar.specs.Moving.{Closing, Reopening, sealed, drawing, drawn, taking_in, taken_in, lookup, Spelled};
+ghost use Rattle.grammar.specs.Listed.{listed, lookup};
+ghost use Rattle.grammar.specs.Moving.{Closing, Reopening, sealed, drawing, drawn, taking_in, taken_in, Spelled};
 
 use crate::closed::{Closed, Lease};
 use crate::draft::Draft;
@@ -136,12 +136,7 @@ impl Closed {
         ensures value { result ≡ lookup (listed self.now.words) spelling.now }
         ensures spelled { Spelled (listed self.now.words) spelling.now result }
     {
-        let number = self.words.number(spelling);
-        if number < self.words.len() {
-            Some(number as u16)
-        } else {
-            None
-        }
+        self.words.number(spelling).map(|number| number as u16)
     }
 
     // The spelling of a category; no bytes where there is none.

@@ -1,49 +1,97 @@
-// Rules of one kind with the same symbols.
-ghost use Rattle.std.specs.Prelude.{◌≡◌, Bool};
-ghost use Rattle.grammar.specs.Adding.{some, same_lexical, same_chains, same_binaries};
+// Rules by their symbols: the weight does not tell two rules apart.
+ghost use Rattle.std.specs.Prelude.{◌≡◌, Bool, false, [], ◌∷◌, ◌++◌, is_ok, if◌then◌else◌, ◌==◌};
+ghost use Rattle.std.specs.List.{list_any};
+ghost use Rattle.grammar.specs.Adding.{putting};
+ghost use Rattle.grammar.specs.Answers.{Alters};
 
+use crate::flaw::Flaw;
 use derivation::{BinaryRule, ChainRule, WordRule};
+use lines::Stop;
+use refusals::Refusal;
 
 pub trait Symbols: Copy {
-    ghost same: { Self → Self → Bool };
+    type Key: PartialEq + Copy;
 
-    // Whether the symbols are the same, whatever the weights.
-    fn alike(self, other: Self) -> bool
-        ensures { result ≡ same self other };
+    ghost key: { Self → Self.Key };
+
+    ghost loops: { Self → Bool };
+
+    // The rule without its weight.
+    fn symbols(self) -> Self::Key
+        ensures { result ≡ key self };
+
+    // Whether a category is chained to itself.
+    fn is_loop(self) -> bool
+        ensures { result ≡ loops self };
 }
 
 impl Symbols for WordRule {
-    ghost same = { same_lexical };
+    type Key = (u8, u16);
 
-    fn alike(self, other: WordRule) -> bool {
-        self.category == other.category && self.word == other.word
+    ghost key = { λ r. (r.category, r.word) };
+
+    ghost loops = { λ _. false };
+
+    fn symbols(self) -> Self::Key {
+        (self.category, self.word)
+    }
+
+    fn is_loop(self) -> bool {
+        false
     }
 }
 
 impl Symbols for ChainRule {
-    ghost same = { same_chains };
+    type Key = (u8, u8);
 
-    fn alike(self, other: ChainRule) -> bool {
-        self.category == other.category && self.part == other.part
+    ghost key = { λ r. (r.category, r.part) };
+
+    ghost loops = { λ r. r.category == r.part };
+
+    fn symbols(self) -> Self::Key {
+        (self.category, self.part)
+    }
+
+    fn is_loop(self) -> bool {
+        self.category == self.part
     }
 }
 
 impl Symbols for BinaryRule {
-    ghost same = { same_binaries };
+    type Key = (u8, (u8, u8));
 
-    fn alike(self, other: BinaryRule) -> bool {
-        self.category == other.category && self.left == other.left && self.right == other.right
+    ghost key = { λ r. (r.category, (r.left, r.right)) };
+
+    ghost loops = { λ _. false };
+
+    fn symbols(self) -> Self::Key {
+        (self.category, (self.left, self.right))
+    }
+
+    fn is_loop(self) -> bool {
+        false
     }
 }
 
 // Whether a rule with the symbols of `rule` is held.
-pub fn holds<R: Symbols>(rules: &[R], rule: R) -> bool
-    ensures { result ≡ some (R.same rule) rules.now }
+fn holds<R: Symbols>(rules: &[R], rule: R) -> bool
+    ensures { result ≡ list_any (λ o. R.Key.eq (R.key rule) (R.key o)) rules.now }
 {
-    for other in rules {
-        if rule.alike(*other) {
-            return true;
-        }
+    let symbols = rule.symbols();
+    rules.iter().any(|other| symbols == other.symbols())
+}
+
+// Adds a rule after those of its kind.
+pub fn put<R: Symbols>(rules: &mut Vec<R>, rule: R) -> Result<(), Stop<Flaw>>
+    ensures answer { Alters (putting (λ r o. R.Key.eq (R.key r) (R.key o)) R.loops rules.old.items rule) rules.old.items result rules.new.items }
+    ensures items { rules.new.items ≡ (if is_ok result then rules.old.items ++ rule ∷ [] else rules.old.items) }
+{
+    if holds(rules, rule) {
+        return Err(Stop::Refusal(Refusal::Duplicate.into()));
     }
-    false
+    if rule.is_loop() {
+        return Err(Stop::Refusal(Refusal::SelfChain.into()));
+    }
+    rules.push(rule)?;
+    Ok(())
 }

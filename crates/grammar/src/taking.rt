@@ -9,7 +9,7 @@ use crate::flaw::{Flaw, Part};
 use lines::{Form, LineFault, Stop};
 
 // Where a part of the form starts in its line, counted from 0.
-fn start_of(form: &Form, part: Part) -> u16
+fn start_of(form: &Form<u16>, part: Part) -> u16
     ensures { result ≡ start_of form.now part }
 {
     match (form, part) {
@@ -33,7 +33,7 @@ fn start_of(form: &Form, part: Part) -> u16
 
 impl Draft {
     // Adds what the form says, by the names that stand in the line.
-    fn add(&mut self, line: &[u8], form: &Form) -> Result<(), Stop<Flaw>>
+    fn add(&mut self, line: &[u8], form: &Form<u16>) -> Result<(), Stop<Flaw>>
         ensures { Alters (adding (seen self.old) line.now form.now) (seen self.old) result (seen self.new) }
     {
         match form {
@@ -59,16 +59,11 @@ impl Draft {
     }
 
     // Takes a line of the grammar; a form that is not about rules or the top adds nothing.
-    pub fn take(&mut self, line: &[u8], form: &Form) -> Result<(), Stop<LineFault>>
+    pub fn take(&mut self, line: &[u8], form: &Form<u16>) -> Result<(), Stop<LineFault>>
         ensures { Alters (taking (seen self.old) line.now form.now) (seen self.old) result (seen self.new) }
     {
-        match self.add(line, form) {
-            Ok(()) => Ok(()),
-            Err(Stop::Memory) => Err(Stop::Memory),
-            Err(Stop::Refusal(flaw)) => Err(Stop::Refusal(LineFault {
-                refusal: flaw.refusal,
-                byte: usize::from(start_of(form, flaw.part)) + 1,
-            })),
-        }
+        self.add(line, form).map_err(|stop| {
+            stop.map(|flaw| { LineFault::at(flaw.refusal, usize::from(start_of(form, flaw.part))) })
+        })
     }
 }

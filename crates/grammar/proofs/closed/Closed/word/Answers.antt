@@ -1,15 +1,10 @@
-use Rattle.std.proofs.Common.{◌<◌, [], length, get_or, ap, ◌∙◌, arith, rules}
-use Rattle.grammar.specs.Listed.{listed}
-use Rattle.grammar.specs.Places.{number_of}
-use Rattle.grammar.proofs.Numbers.{number_found, number_missing}
+use Rattle.std.proofs.Common.{◌≡◌, sym, rules}
+use Rattle.grammar.specs.Listed.{listed, lookup}
+use Rattle.grammar.proofs.Numbers.{spelled}
 use Rattle.grammar.proofs.closed.Closed.word.Goals as goal
 
-pub returns-then-number-len : goal.returns-then-number-len
-returns-then-number-len c =
+pub returns-clause-spelled : goal.returns-clause-spelled
+returns-clause-spelled c =
     let names = listed c.args.self.now.words in
-    let name = c.args.spelling.now in
-    let inside : number_of names name < length names = omega arith in
-    record { value = search rules; spelled = (omega arith, ap (λ k. get_or names k []) c.number-number.ensures ∙ number_found names name inside) }
-
-pub returns-else-number-len : goal.returns-else-number-len
-returns-else-number-len c = record { value = search rules; spelled = number_missing (listed c.args.self.now.words) c.args.spelling.now (omega arith) }
+    let is : c.map.result ≡ lookup names c.args.spelling.now = search rules in
+    spelled names c.args.spelling.now c.map.result (sym is)
