@@ -6,9 +6,6 @@ use Rattle.tree.specs.declared.node.Kind.TheVariants.{Word, Chain, Binary}
 use Rattle.tree.specs.Preorder.{preorder}
 use Rattle.render.specs.Render.{render, Shows}
 
-pub three : (a x y z o p q : List ℕ) → o ≡ a ++ x → p ≡ o ++ y → q ≡ p ++ z → q ≡ a ++ (x ++ (y ++ z))
-three a x y z o p q i j k = k ∙ ap (λ l. l ++ z) (j ∙ ap (λ l. l ++ y) i) ∙ simp append_assoc
-
 four : (a w x y z o p q r : List ℕ) → o ≡ a ++ w → p ≡ o ++ x → q ≡ p ++ y → r ≡ q ++ z → r ≡ a ++ (w ++ (x ++ (y ++ z)))
 four a w x y z o p q r h i j k = k ∙ ap (λ l. l ++ z) (j ∙ ap (λ l. l ++ y) (i ∙ ap (λ l. l ++ x) h)) ∙ simp append_assoc
 

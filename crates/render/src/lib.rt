@@ -53,7 +53,7 @@ pub fn show<'a, S: Spelling>(
     open(names, node.category, out)?;
     match node.kind {
         Kind::Word => {
-            word(names, node.begin as usize, out)?;
+            word(names, usize::from(node.begin), out)?;
             Ok(others)
         }
         Kind::Chain => {
@@ -72,8 +72,6 @@ pub fn show<'a, S: Spelling>(
 }
 
 // Holds the theorem by its name: the text of a tree, read back, gives its shape.
-pub fn reads_back() -> u8
+pub fn reads_back()
     ensures { ReadsBack }
-{
-    0
-}
+{}

@@ -3,7 +3,7 @@ use Rattle.std.proofs.Common.{◌≡◌, ℕ, zero, suc, ◌+◌, ◌<◌, true,
 use Rattle.std.proofs.lemmas.Bool.{and_parts, and_from}
 use Rattle.derivation.specs.Scale.{Scale}
 use Rattle.derivation.specs.Ladder.{ceiling_at, Rising}
-use Rattle.table.proofs.Growing.{none_some, some_same}
+use Rattle.derivation.proofs.Reading.{none_some, some_same}
 use Rattle.session.specs.Request.{rises}
 
 module _ {Cost : Type 0} (s : Scale Cost) where

@@ -1,4 +1,3 @@
-pub mod Backs
 pub mod Ladders
 pub mod Promise
 pub mod Runs

@@ -9,14 +9,16 @@ use Rattle.derivation.specs.Ladder.{Rising, Succeeds}
 use Rattle.derivation.proofs.Laws.{not_both}
 use Rattle.derivation.proofs.Ladder.{settles}
 use Rattle.derivation.proofs.Table.{all_pass}
-use Rattle.table.proofs.Growing.{some_same}
+use Rattle.derivation.proofs.Reading.{some_same}
 use Rattle.search.specs.declared.best.Tree.{Tree}
 use Rattle.search.proofs.Rounds.{kept_in}
 use Rattle.session.specs.declared.sizes.Sizes.{Sizes}
-use Rattle.session.specs.State.{State, Over}
+use Rattle.session.specs.State.{Over}
 use Rattle.session.specs.Calls.{fits}
+use Rattle.session.specs.Runs.{Call, held, Leads}
 use Rattle.session.specs.Request.{rises, enough, declined, Memory, Given, Underivable, Asked}
 use Rattle.session.specs.Cheapest.{Whole, Handed, Able, Cheapest}
+use Rattle.session.proofs.Runs.{led}
 use Rattle.session.proofs.Ladders.{rises_tells, rising_rises}
 
 -- a request that is not declined passed each test
@@ -110,16 +112,13 @@ module _ {Cost : Type 0} {s : Scale Cost} (lawful : Lawful s) (o : Over) (entry 
       sure = λ able. inr (ap Err asked.0);
     }
 
-    pub cheapest_asked : (d : Option Refusal) (answer : Result (Tree Cost) Refusal) → declined s o before.session ladder z ≡ d → Asked s o entry ladder before after d answer → Cheapest s o.grammar entry ladder before.session.held z after.nodes answer
+    cheapest_asked : (d : Option Refusal) (answer : Result (Tree Cost) Refusal) → declined s o before.session ladder z ≡ d → Asked s o entry ladder before after d answer → Cheapest s o.grammar entry ladder before.session.held z after.nodes answer
     cheapest_asked None answer is asked = cheapest_searched answer is asked
     cheapest_asked (Some r) answer is asked = cheapest_declined r answer is asked.0
 
--- a request that is not declined brings enough
-pub fits_in : {Cost : Type 0} (s : Scale Cost) (o : Over) (t : State) (ladder : List Cost) (z : Sizes) → declined s o t ladder z ≡ None → (length t.held ≤ z.room) × (length t.held * (length t.held + 1) / 2 * o.grammar.categories ≤ z.costs) × ((2 * length t.held - 1) * o.grammar.categories ≤ z.nodes)
-fits_in s o t ladder z free =
-    let n = length t.held in
-    let g = o.grammar.categories in
-    let tests = not_declined (fits o t) (eqb n 0) (leb (length ladder) 16 && rises s ladder) (enough n g z) free in
-    let both = and_parts (leb n z.room && leb n z.span) (leb (n * (n + 1) / 2 * g) z.costs && leb ((2 * n - 1) * g) z.nodes) tests.1 in
-    let rest = and_parts (leb (n * (n + 1) / 2 * g) z.costs) (leb ((2 * n - 1) * g) z.nodes) both.1 in
-    (leb-true n z.room (and_parts (leb n z.room) (leb n z.span) both.0).0, leb-true _ z.costs rest.0, leb-true _ z.nodes rest.1)
+  -- the promise, of the words that a list of calls leaves
+  pub promised : (calls : List Call) (answer : Result (Tree Cost) Refusal) → Bounds s o.grammar z.span entry → Leads o calls before.session → Asked s o entry ladder before after (declined s o before.session ladder z) answer
+      → Cheapest s o.grammar entry ladder (held o calls) z after.nodes answer
+  promised calls answer bounds leads asked =
+      let l = led leads in
+      subst (λ (ws : List ℕ). Cheapest s o.grammar entry ladder ws z after.nodes answer) l.words (cheapest_asked bounds l.number (declined s o before.session ladder z) answer refl asked)

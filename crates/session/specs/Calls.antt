@@ -37,8 +37,9 @@ abbrev pub tried : Over → State → ℕ → ℕ → State
 tried o s place w = cond (is_some (refusing o s place w)) s (holding s (replaced s.held place w))
 
 -- once a trial ends that was not kept: the earlier word stands again, unless the trial was refused
-abbrev pub back : Option Refusal → State → ℕ → ℕ → State
-back refused s place earlier = cond (is_some refused) s (cond (nat_le 1 place && nat_le place (length s.held)) (holding s (replaced s.held place earlier)) s)
+abbrev pub back : Result ℕ Refusal → State → ℕ → State
+back (Err why) s place = s
+back (Ok earlier) s place = cond (nat_le 1 place && nat_le place (length s.held)) (holding s (replaced s.held place earlier)) s
 
 -- one tree more was handed out; the tally stays at its largest
 abbrev pub counted : State → State

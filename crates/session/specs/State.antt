@@ -1,5 +1,5 @@
 -- What is seen of a session, and of the closed grammar that is handed to its calls.
-use Rattle.std.specs.Prelude.{ℕ, List, [], take}
+use Rattle.std.specs.Prelude.{ℕ, List, []}
 use Rattle.derivation.specs.Grammar.{Grammar, grammar}
 use Rattle.grammar.specs.declared.closed.Closed.{Closed}
 use Rattle.session.specs.declared.state.Session.{Session}
@@ -11,7 +11,7 @@ pub record State : Type 0 where
   pub number : ℕ
 
 abbrev pub state : Session → State
-state s = record { held = take s.len s.words; tally = s.tally; number = s.number }
+state s = record { held = s.words.items; tally = s.tally; number = s.number }
 
 -- the same session, holding other words
 abbrev pub holding : State → List ℕ → State

@@ -1,15 +1,40 @@
 // Opening and closing a session, putting words and taking them back.
-ghost use Rattle.std.specs.Prelude.{◌≡◌};
+ghost use Rattle.std.specs.Prelude.{◌≡◌, cond, Ok, Err, nat_lt};
+ghost use Rattle.refusals.specs.declared.Refusal.TheVariants.{OtherGrammar, UnknownWord};
 ghost use Rattle.grammar.specs.Moving.{sealed, drawn};
 ghost use Rattle.session.specs.State.{state, over};
-ghost use Rattle.session.specs.Calls.{putting, put as after_put, taking, taken};
+ghost use Rattle.session.specs.Calls.{fits, putting, put as after_put, taking, taken};
 ghost use Rattle.session.specs.Opening.{Opening, closing, closed};
 
 use crate::state::Session;
+use arrayvec::ArrayVec;
 use grammar::{Closed, Lease};
 use refusals::Refusal;
 
 impl Session {
+    // Refuses a grammar that is not the session's.
+    pub(crate) fn fits(&self, grammar: &Closed) -> Result<(), Refusal>
+        ensures { result ≡ cond (fits (over grammar.now) (state self.now)) (Ok tt) (Err OtherGrammar) }
+    {
+        if self.number == grammar.number() {
+            Ok(())
+        } else {
+            Err(Refusal::OtherGrammar)
+        }
+    }
+
+    // Refuses another grammar, and a word that the grammar lacks.
+    pub(crate) fn knows(&self, grammar: &Closed, word: u16) -> Result<(), Refusal>
+        ensures { result ≡ cond (fits (over grammar.now) (state self.now)) (cond (nat_lt word (over grammar.now).grammar.vocabulary) (Ok tt) (Err UnknownWord)) (Err OtherGrammar) }
+    {
+        self.fits(grammar)?;
+        if usize::from(word) < grammar.rules().vocabulary {
+            Ok(())
+        } else {
+            Err(Refusal::UnknownWord)
+        }
+    }
+
     // Opens a session with no words, and with it a lease on the grammar; a ninth lease out is refused.
     pub fn open(grammar: &mut Closed) -> Result<(Session, Lease), Refusal>
         ensures answer { Opening grammar.old result }
@@ -18,8 +43,7 @@ impl Session {
         let lease = grammar.draw()?;
         Ok((
             Session {
-                words: [0; 40],
-                len: 0,
+                words: ArrayVec::new(),
                 tally: 0,
                 number: grammar.number(),
             },
@@ -32,12 +56,11 @@ impl Session {
         ensures answer { result ≡ closing grammar.old self lease }
         ensures after { sealed grammar.new ≡ closed grammar.old self lease }
     {
-        if self.number != grammar.number() {
-            return Err((Refusal::OtherGrammar, self, lease));
-        }
-        match grammar.take_in(lease) {
-            Ok(()) => Ok(()),
-            Err(back) => Err((back.0, self, back.1)),
+        match self.fits(grammar) {
+            Ok(()) => grammar
+                .take_in(lease)
+                .map_err(|(refusal, lease)| (refusal, self, lease)),
+            Err(refusal) => Err((refusal, self, lease)),
         }
     }
 
@@ -47,19 +70,12 @@ impl Session {
         ensures after { state self.new ≡ after_put (over grammar.now) (state self.old) word }
         ensures number { self.new.number ≡ self.old.number }
     {
-        if self.number != grammar.number() {
-            return Err(Refusal::OtherGrammar);
-        }
-        if word as usize >= grammar.rules().vocabulary {
-            return Err(Refusal::UnknownWord);
-        }
-        let at = self.len;
-        if at >= 40 {
+        self.knows(grammar, word)?;
+        if self.words.is_full() {
             return Err(Refusal::SessionFull);
         }
-        self.words[at] = word;
-        self.len = at + 1;
-        Ok(at + 1)
+        self.words.push(word);
+        Ok(self.words.len())
     }
 
     // Removes the last k words, and answers the new count.
@@ -68,14 +84,10 @@ impl Session {
         ensures after { state self.new ≡ taken (over grammar.now) (state self.old) k }
         ensures number { self.new.number ≡ self.old.number }
     {
-        if self.number != grammar.number() {
-            return Err(Refusal::OtherGrammar);
-        }
-        if k > self.len {
-            return Err(Refusal::NoPlace);
-        }
-        self.len -= k;
-        Ok(self.len)
+        self.fits(grammar)?;
+        let left = self.words.len().checked_sub(k).ok_or(Refusal::NoPlace)?;
+        self.words.truncate(left);
+        Ok(left)
     }
 
     // How many trees the session has handed out.
@@ -89,6 +101,6 @@ impl Session {
     pub fn words(&self) -> &[u16]
         ensures { result.now ≡ (state self.now).held }
     {
-        &self.words[0..self.len]
+        &self.words
     }
 }

@@ -1,14 +1,15 @@
 // Tree requests: checked first, then searched, with the promise of the cheapest tree.
-ghost use Rattle.std.specs.Prelude.{◌≡◌, ℕ, ◌≤◌, true, false, List, length};
+ghost use Rattle.std.specs.Prelude.{◌≡◌, List, length};
+ghost use Rattle.std.specs.Result.{result_err};
 ghost use Rattle.session.specs.State.{state, over};
-ghost use Rattle.session.specs.Request.{rises, enough, declined, Asked};
+ghost use Rattle.session.specs.Request.{rises, declined, Asked};
 ghost use Rattle.session.specs.Runs.{Call, held, Leads};
 ghost use Rattle.session.specs.Cheapest.{Cheapest};
 
 use crate::sizes::Sizes;
 use crate::state::Session;
 use bound::Bound;
-use chart::{Chart, cells_of};
+use chart::Chart;
 use grammar::Closed;
 use refusals::Refusal;
 use scale::Scale;
@@ -23,48 +24,30 @@ const CEILINGS: usize = 16;
 fn rising<S: Scale>(ladder: &[S::Cost]) -> bool
     ensures { result ≡ rises S.scale ladder.now }
 {
-    for k in 1..ladder.len() {
-        if !S::above(ladder[k], ladder[k - 1]) {
-            return false;
-        }
-    }
-    true
-}
-
-// Whether there is enough for n words and g categories.
-fn suffices(n: usize, g: usize, sizes: Sizes) -> bool
-    requires some { 1 ≤ n }
-    requires most { n ≤ 40 }
-    requires few { g ≤ 64 }
-    ensures { result ≡ enough n g sizes }
-{
-    (n <= sizes.room && n <= sizes.span)
-        && (cells_of(n) * g <= sizes.costs && (2 * n - 1) * g <= sizes.nodes)
+    ladder.is_sorted_by(|low, high| S::above(*high, *low))
 }
 
 impl Session {
-    // Why a request is refused before any search, if it is.
-    fn declines<S: Scale>(
+    // Refuses a request before any search, for the first cause that there is.
+    fn allows<S: Scale>(
         &self,
         grammar: &Closed,
         ladder: &[S::Cost],
         sizes: Sizes,
-    ) -> Option<Refusal>
-        ensures { result ≡ declined S.scale (over grammar.now) (state self.now) ladder.now sizes }
+    ) -> Result<(), Refusal>
+        ensures { result_err result ≡ declined S.scale (over grammar.now) (state self.now) ladder.now sizes }
     {
-        if self.number != grammar.number() {
-            return Some(Refusal::OtherGrammar);
-        }
-        if self.len == 0 {
-            return Some(Refusal::NoWords);
+        self.fits(grammar)?;
+        if self.words.is_empty() {
+            return Err(Refusal::NoWords);
         }
         if ladder.len() > CEILINGS || !rising::<S>(ladder) {
-            return Some(Refusal::WrongLadder);
+            return Err(Refusal::WrongLadder);
         }
-        if !suffices(self.len, grammar.rules().categories, sizes) {
-            return Some(Refusal::TooSmall);
+        if !sizes.suffice(self.words.len(), grammar.rules().categories) {
+            return Err(Refusal::TooSmall);
         }
-        None
+        Ok(())
     }
 
     // A cheapest tree of the words held, written into the node memory; chart and costs then show the last round run.
@@ -87,23 +70,18 @@ impl Session {
             costs: costs.len(),
             nodes: nodes.len(),
         };
-        if let Some(refusal) = self.declines::<S>(grammar, ladder, sizes) {
-            return Err(refusal);
-        }
-        match best::<S, C, B>(
+        self.allows::<S>(grammar, ladder, sizes)?;
+        let tree = best::<S, C, B>(
             grammar.rules(),
-            self.words(),
+            &self.words,
             bound,
             ladder,
             chart,
             costs,
             nodes,
-        ) {
-            Some(tree) => {
-                self.tally = self.tally.saturating_add(1);
-                Ok(tree)
-            }
-            None => Err(Refusal::NoDerivation),
-        }
+        )
+        .ok_or(Refusal::NoDerivation)?;
+        self.tally = self.tally.saturating_add(1);
+        Ok(tree)
     }
 }

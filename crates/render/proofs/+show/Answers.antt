@@ -9,7 +9,7 @@ returns-in_default-clause-text g t c = shows_none (g.S.Spelling.titles c.args.na
 pub returns-in_ok-word-in-Word-clause-text : goal.returns-in_ok-word-in-Word-clause-text
 returns-in_ok-word-in-Word-clause-text g t c =
     let (is, long) = c.in-Some.ensures.cases in
-    shows_word (g.S.Spelling.titles c.args.names.now) (g.S.Spelling.spellings c.args.names.now) c.args.nodes.now c.in-Some.node.now c.in-Some.others.now is _ _ c.in_ok-open.ensures _ c.in-Word.is c.in_ok-word-in-Word.ensures
+    shows_word (g.S.Spelling.titles c.args.names.now) (g.S.Spelling.spellings c.args.names.now) c.args.nodes.now c.in-Some.node.now c.in-Some.others.now is _ _ c.in_ok-open.ensures _ c.in-Word.is (rw c.from.ensures at c.in_ok-word-in-Word.ensures)
 
 pub returns-in_ok-extend_from_slice-in-Chain-clause-text : goal.returns-in_ok-extend_from_slice-in-Chain-clause-text
 returns-in_ok-extend_from_slice-in-Chain-clause-text g t c =
