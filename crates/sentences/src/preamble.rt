@@ -1,93 +1,77 @@
 // The lines before the first sentence: the grammar, the scale and the ladder.
-use crate::cursor::Cursor;
-use crate::printing::refused;
+ghost use Rattle.std.specs.Prelude.{◌≡◌, OnOk, IfOk};
+ghost use Rattle.sentences.specs.Lines.{numbered};
+ghost use Rattle.sentences.specs.Preamble.{told, untold, telling, Takes, opened};
+
+use crate::printing::{faulted, refused};
+use crate::text::Lines;
 use grammar::Draft;
 use lines::{Allowed, Form, LineFault, ScaleName, Stop, read_line};
 use std::alloc::{AllocError, Global};
+use std::ops::ControlFlow;
 
+// The number that the program gives its one grammar, and the most categories that it takes.
+const NUMBER: u16 = 1;
+
+const CATEGORIES: usize = 32;
+
+// What was said so far.
 #[derive(Drop)]
 pub struct Preamble {
     pub draft: Draft,
-    pub scale: ScaleName,
-    pub ladder: Vec<u16>,
+    pub scale: Option<ScaleName>,
+    pub ladder: Option<Vec<u16>>,
 }
 
-// What was said of scale and ladder so far.
-#[derive(Drop)]
-struct Options {
-    scale: Option<ScaleName>,
-    ladder: Option<Vec<u16>>,
-}
-
-// Whether a sentence comes next.
-#[derive(Drop)]
-enum Next {
-    Sentence,
-    Line,
-}
-
-// Takes one line before the first sentence.
-fn take_line(
-    heap: Global,
-    line: &[u8],
-    draft: &mut Draft,
-    options: &mut Options,
-) -> Result<Next, Stop<LineFault>> {
-    let allowed = Allowed {
-        grammar: true,
-        scale: options.scale.is_none(),
-        ladder: options.ladder.is_none(),
-    };
-    match read_line(heap, line, allowed)? {
-        None => {}
-        Some(Form::Say(_)) => return Ok(Next::Sentence),
-        Some(Form::Scale(name)) => options.scale = Some(name),
-        Some(Form::Ladder(ceilings)) => options.ladder = Some(ceilings),
-        Some(form) => draft.take(line, &form)?,
-    }
-    Ok(Next::Line)
-}
-
-// Takes the lines up to the first sentence that is free of faults of text and form, and not past it.
-fn take_lines(
-    heap: Global,
-    cursor: &mut Cursor<'_>,
-    draft: &mut Draft,
-    options: &mut Options,
-    out: &mut Vec<u8>,
-) -> Result<(), AllocError> {
-    while let Some(line) = cursor.peek() {
-        match take_line(heap, line, draft, options) {
-            Ok(Next::Sentence) => return Ok(()),
-            Ok(Next::Line) => {}
-            Err(Stop::Memory) => return Err(AllocError),
-            Err(Stop::Refusal(fault)) => refused(heap, out, fault.refusal, cursor.line())?,
+impl Preamble {
+    pub fn new(heap: Global) -> Preamble
+        ensures { told result ≡ untold }
+    {
+        Preamble {
+            draft: Draft::new(heap, NUMBER, CATEGORIES),
+            scale: None,
+            ladder: None,
         }
-        cursor.skip();
     }
-    Ok(())
-}
 
-// Reads all that comes before the first sentence; sums and no ceilings stand where nothing else is said.
-pub fn read_preamble(
-    heap: Global,
-    cursor: &mut Cursor<'_>,
-    mut draft: Draft,
-    out: &mut Vec<u8>,
-) -> Result<Preamble, AllocError> {
-    let mut options = Options {
-        scale: None,
-        ladder: None,
-    };
-    take_lines(heap, cursor, &mut draft, &mut options, out)?;
-    let Options { scale, ladder } = options;
-    let ladder = match ladder {
-        Some(ceilings) => ceilings,
-        None => Vec::new(heap),
-    };
-    Ok(Preamble {
-        draft,
-        scale: scale.unwrap_or(ScaleName::Sum),
-        ladder,
-    })
+    // Takes one line; a sentence breaks off.
+    fn take(&mut self, heap: Global, line: &[u8]) -> Result<ControlFlow<()>, Stop<LineFault>>
+        ensures { Takes (telling (told self.old) line.now) (told self.old) result (told self.new) }
+    {
+        let allowed = Allowed {
+            grammar: true,
+            scale: self.scale.is_none(),
+            ladder: self.ladder.is_none(),
+        };
+        match read_line(heap, line, allowed)? {
+            None => {}
+            Some(Form::Say(_)) => return Ok(ControlFlow::Break(())),
+            Some(Form::Scale(name)) => self.scale = Some(name),
+            Some(Form::Ladder(ceilings)) => self.ladder = Some(ceilings),
+            Some(form) => self.draft.take(line, &form)?,
+        }
+        Ok(ControlFlow::Continue(()))
+    }
+
+    // Takes the lines up to the first sentence that is free of faults of text and form; answers the lines from it on.
+    pub fn read<'a>(
+        &mut self,
+        heap: Global,
+        lines: Lines<'a>,
+        out: &mut Vec<u8>,
+    ) -> Result<Lines<'a>, AllocError>
+        ensures { IfOk result (λ sentences. opened (numbered lines.entry.passed lines.entry.rest.now) (told self.old) out.old.items ≡ record { told = told self.new; written = out.new.items; sentences = numbered sentences.passed sentences.rest.now }) }
+    {
+        // the line that is read, and those after it
+        let mut sentences = lines;
+        for line in lines {
+            match faulted(self.take(heap, line.bytes))? {
+                Ok(ControlFlow::Break(())) => return Ok(sentences),
+                Ok(ControlFlow::Continue(())) => {}
+                Err(fault) => refused(out, fault.refusal, line.number)?,
+            }
+            sentences.next();
+        }
+        Ok(sentences)
+    }
 }

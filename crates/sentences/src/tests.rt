@@ -23,3 +23,22 @@ fn no_top(rt: HostRuntime) -> Result<(), Fail> {
     assert!(rt; out.as_slice() == b"(refused 9 2)\n(refused 4 3)\n(refused 9 4)\n".as_slice());
     Ok(())
 }
+
+// Sentences that are parsed, by sums without a ladder, and by the single worst rule with one; and those that are not.
+#[test]
+fn sentences(rt: HostRuntime) -> Result<(), Fail> {
+    let out = answers(
+        rt.alloc(),
+        b"(top S)\n(rule 1 (S N V))\n(lex 3 (N time))\n(lex 5 (V flies))\n(say time flies)\n(say flies time)\n(say fruit flies)\n(say)",
+    )?;
+    assert!(rt;
+        out.as_slice()
+            == b"(tree 9 0 3 (S (N time) (V flies)))\n(refused 19 6)\n(refused 13 7)\n(refused 16 8)\n".as_slice()
+    );
+    let out = answers(
+        rt.alloc(),
+        b"(scale worst)\n(ladder 4 9)\n(top S)\n(rule 1 (S N V))\n(lex 3 (N time))\n(lex 5 (V flies))\n(say time flies)\n",
+    )?;
+    assert!(rt; out.as_slice() == b"(tree 5 1 3 (S (N time) (V flies)))\n".as_slice());
+    Ok(())
+}
