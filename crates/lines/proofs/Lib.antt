@@ -1,9 +1,9 @@
 mod Causes
+mod Counted
 mod Firsts
 mod Onward
 mod Pairing
 mod Places
 mod Readings
-mod Rows
 mod Spelt
 mod Written

@@ -1,6 +1,6 @@
 // The text layer: the classes of bytes, where a line ends, and what no line may hold.
-ghost use Rattle.std.specs.Prelude.{◌≡◌, ◌<◌, ◌≤◌, length, IfSome, MatchOption};
-ghost use Rattle.std.specs.List.{list_all, prefix_len};
+ghost use Rattle.std.specs.Prelude.{◌≡◌, ◌+◌, ◌<◌, ◌≤◌, min, cond, length, option_map, IfSome, MatchOption};
+ghost use Rattle.std.specs.List.{prefix_len};
 ghost use Rattle.lines.specs.Bytes.{class_of, ends_no, in_line, is_own, is_letter, letter, foreign_at, long_part, too_long_at};
 
 // The most bytes of a part, and of a line.
@@ -71,11 +71,28 @@ pub fn foreign_at(line: &[u8]) -> Option<usize>
     line.iter().position(|b| !Class::from(*b).is_own())
 }
 
-// Whether all bytes of a part are letters.
-fn all_letters(part: &[u8]) -> bool
-    ensures { result ≡ list_all letter part.now }
+// How many letters in a row end with `b`, after `run` of them; past the most of a part they count as one more.
+fn counted(run: usize, b: u8) -> usize
+    ensures { result ≡ cond (letter b) (min run 16 + 1) 0 }
 {
-    part.iter().all(|b| Class::from(*b).is_letter())
+    if Class::from(b).is_letter() {
+        run.min(PART) + 1
+    } else {
+        0
+    }
+}
+
+// The place of the first byte that is the 17th letter in a row; each byte is looked at once.
+fn seventeenth(line: &[u8]) -> Option<usize>
+    ensures value { result ≡ option_map (λ start. start + 16) (long_part 0 line.now) }
+    ensures within { IfSome result (λ last. last < length line.now) }
+{
+    line.iter()
+        .scan(0, |run, b| {
+            *run = counted(*run, *b);
+            Some(*run)
+        })
+        .position(|run| run > PART)
 }
 
 // Where the first part of more than 16 bytes starts.
@@ -83,7 +100,8 @@ fn long_part(line: &[u8]) -> Option<usize>
     ensures value { result ≡ long_part 0 line.now }
     ensures within { IfSome result (λ at. at < length line.now) }
 {
-    line.windows(PART + 1).position(|part| all_letters(part))
+    let last = seventeenth(line)?;
+    Some(last - PART)
 }
 
 // The place of what is too long: a part of more than 16 bytes, or the 1,025th byte.
