@@ -1,6 +1,8 @@
 -- What holds while a column of n categories is settled, category by category, the cheapest first.
-use Rattle.std.proofs.Common.{◌≡◌, ℕ, zero, suc, ◌<◌, Bool, true, false, ◌⊎◌, List, [], ◌∷◌, length, get_or, set, Some, None, sym, refl, ◌∙◌, subst, inl, inr, ⊎_elim, arith, get_or-set_other, get_or-set_same}
-use native.Mathlib.Decide.{ℕ_discrete}
+use Rattle.std.proofs.Common.{◌≡◌, ℕ, zero, suc, ◌<◌, Bool, true, false, ◌⊎◌, List, [], ◌∷◌, length, get_or, set, drop, replicate, Some, None, sym, refl, ap, ◌+◌, ◌-◌, ◌∙◌, subst, inl, inr, ⊎_elim, arith, get_or-set_other, get_or-set_same}
+use native.Mathlib.Decide.{ℕ_discrete, dec_lt}
+use lib.ListN.{get_or-replicate, length-replicate}
+use Rattle.std.proofs.lemmas.List.{get_or_past, get_or-drop, length-drop}
 use Rattle.derivation.specs.declared.rules.ChainRule.{ChainRule}
 use Rattle.derivation.specs.Named.{At, NamedChains}
 use Rattle.derivation.specs.Scale.{Scale, Lawful, Within}
@@ -13,7 +15,10 @@ use Rattle.settle.specs.Offers.{By}
 use Rattle.settle.specs.Chains.{source, target, Steps, Picked, Closed, Chained, here, further, Settled}
 use Rattle.derivation.proofs.Reading.{none_some, some_same}
 use Rattle.settle.proofs.Growing.{lower_than, filled_is, sinks}
-use Rattle.settle.proofs.Closing.{named_small}
+use Rattle.settle.proofs.Closing.{named_small, ClosedTo}
+
+pub fresh : (n k : ℕ) → get_or (replicate n false) k false ≡ false
+fresh n k = elim (dec_lt k n) [ yes h ↦ get_or-replicate n k false false h | no h ↦ get_or_past (replicate n false) k false (omega (arith, length-replicate n false)) ]
 
 -- how many are not settled
 abbrev pub left : List Bool → ℕ
@@ -113,6 +118,34 @@ module _ {Cost : Type 0} {s : Scale Cost} (lawful : Lawful s) {ok : ℕ → Cost
           subst (λ n. Chained s ok direction chains before n y) step.ends (subst (λ c. Chained s ok direction chains before (target direction r) c) (sym step.is) (further r by.at base fine)))
           (relaxed.origin A y is);
     }
+
+  -- where the rules before j lower nothing, what the others offer is what all offer
+  pub grown_front : {j a : ℕ} {x : Cost} {settled : List Bool} {row after : Column Cost} → ClosedTo s direction chains row j → row a ≡ Some x → Grown s ok (By (drop j chains) (length (drop j chains)) (Steps s direction settled a x)) row after → Grown s ok (By chains (length chains) (Steps s direction settled a x)) row after
+  grown_front {j} {a} {x} {settled} {row} {after} front is grown = record {
+    rest = λ A none. grown.rest A (λ c h. none c (up A c h));
+    lower = grown.lower;
+    made = λ A c h fine. elim (dec_lt h.place j) [
+      | yes below ↦
+          let r = h.one in
+          let step = h.offered in
+          let base : row (source direction r) ≡ Some x = ap row step.begins ∙ is in
+          let low : Filled (row (target direction r)) (λ y. Within s y (s.join (s.price r.weight) x)) = front.by h.place r x below h.at base in
+          let low' : Filled (row A) (λ y. Within s y (s.join (s.price r.weight) x)) = subst (λ n. Filled (row n) (λ y. Within s y (s.join (s.price r.weight) x))) step.ends low in
+          sinks lawful grown A c (subst (λ z. Filled (row A) (λ y. Within s y z)) (sym step.is) low')
+      | no past ↦
+          let k = h.place - j in
+          let inside : k < length (drop j chains) = omega (arith, h.at.inside, length-drop j chains) in
+          let there : j + k ≡ h.place = omega arith in
+          let at : At (drop j chains) k h.one = record { inside = inside; is = get_or-drop j chains k h.one ∙ ap (λ n. get_or chains n h.one) there ∙ h.at.is } in
+          grown.made A c (record { place = k; one = h.one; under = inside; at = at; offered = h.offered }) fine
+    ];
+    origin = λ A y e. ⊎_elim inl (λ new. inr (up A y new.0, new.1)) (grown.origin A y e);
+  }
+    where
+      up : (A : ℕ) (c : Cost) → By (drop j chains) (length (drop j chains)) (Steps s direction settled a x) A c → By chains (length chains) (Steps s direction settled a x) A c
+      up A c h =
+          let inside : j + h.place < length chains = omega (arith, h.at.inside, length-drop j chains) in
+          record { place = j + h.place; one = h.one; under = inside; at = record { inside = inside; is = sym (get_or-drop j chains h.place h.one) ∙ h.at.is }; offered = h.offered }
 
   pub going_all : {n : ℕ} {before row : Column Cost} {settled : List Bool} → NamedChains chains n → Going s ok direction chains n before row settled → Picked s row settled n None → Settled s ok direction chains before row
   going_all {n} {before} {row} {settled} named going none = record {

@@ -14,9 +14,9 @@ pub enum Direction {
 
 impl Direction {
     // The category that a rule leads from, and the one that it leads to.
-    pub(crate) fn ends(self, rule: ChainRule) -> (usize, usize)
-        ensures from { result.0 ≡ source self rule }
-        ensures to { result.1 ≡ target self rule }
+    pub(crate) fn ends(self, rule: &ChainRule) -> (usize, usize)
+        ensures from { result.0 ≡ source self rule.now }
+        ensures to { result.1 ≡ target self rule.now }
     {
         let category = usize::from(rule.category);
         let part = usize::from(rule.part);

@@ -1,11 +1,11 @@
 // The least cost of each category of a row under the chain rules, upward or downward.
 #![tactic(auto)]
 
-ghost use Rattle.std.specs.Prelude.{◌≡◌, ◌<◌, ◌≤◌, true, false, length};
+ghost use Rattle.std.specs.Prelude.{◌≡◌, ◌<◌, ◌≤◌, length, take, IfSome, MatchOption};
 ghost use Rattle.derivation.specs.Named.{NamedChains};
 ghost use Rattle.settle.specs.Column.{AllOpen, Grown};
 ghost use Rattle.settle.specs.Offers.{By};
-ghost use Rattle.settle.specs.Chains.{Steps, Picked, chosen, lowered, Closed, Settled};
+ghost use Rattle.settle.specs.Chains.{Steps, Picked, chosen, Closed, Settled};
 
 use derivation::ChainRule;
 use scale::Scale;
@@ -16,31 +16,32 @@ pub mod row;
 pub use direction::Direction;
 pub use row::{CostRow, Row, wanted};
 
-// Whether a rule of this weight makes the cost of one category cheaper by way of another's.
-fn lowers<S: Scale, R: Row<S>>(weight: u16, row: &R, from: usize, to: usize) -> bool
-    requires from { from < R.size row.now }
-    requires to { to < R.size row.now }
-    ensures { result ≡ lowered S.scale weight (R.costs row.now from) (R.costs row.now to) }
+// The place of the first rule that makes a cost of the row cheaper. A category that has no cost is asked for it once.
+fn first_lowering<S: Scale, R: Row<S>>(
+    chains: &[ChainRule],
+    direction: Direction,
+    row: &R,
+) -> Option<usize>
+    requires few { R.size row.now ≤ 64 }
+    requires named { NamedChains chains.now (R.size row.now) }
+    ensures closed { MatchOption result (Closed S.scale AllOpen direction chains.now (R.costs row.now)) (λ place. Closed S.scale AllOpen direction (take place chains.now) (R.costs row.now)) }
+    ensures open { IfSome result (λ place. (place < length chains.now) × (Closed S.scale AllOpen direction chains.now (R.costs row.now) → ⊥)) }
 {
-    match row.known(from) {
-        None => false,
-        Some(cost) => wanted::<S>(row.known(to), S::join(S::price(weight), cost)),
-    }
-}
-
-// Whether no rule makes a cost of the row cheaper.
-fn closed<S: Scale, R: Row<S>>(chains: &[ChainRule], direction: Direction, row: &R) -> bool
-    requires { NamedChains chains.now (R.size row.now) }
-    ensures yes { result ≡ true → Closed S.scale AllOpen direction chains.now (R.costs row.now) }
-    ensures no { result ≡ false → Closed S.scale AllOpen direction chains.now (R.costs row.now) → ⊥ }
-{
-    for rule in chains {
-        let (from, to) = direction.ends(*rule);
-        if lowers::<S, _>(rule.weight, row, from, to) {
-            return false;
+    let mut bare = [false; 64];
+    for (place, rule) in chains.iter().enumerate() {
+        let (from, to) = direction.ends(rule);
+        if !bare[from] {
+            match row.known(from) {
+                None => bare[from] = true,
+                Some(cost) => {
+                    if wanted::<S>(row.known(to), S::join(S::price(rule.weight), cost)) {
+                        return Some(place);
+                    }
+                }
+            }
         }
     }
-    true
+    None
 }
 
 // Follows the rules that lead from one category, which costs so much, to those not settled.
@@ -58,7 +59,7 @@ fn relax<S: Scale, R: Row<S>>(
     ensures grown { Grown S.scale (R.enters row.old) (By chains.now (length chains.now) (Steps S.scale direction settled.now category cost)) (R.costs row.old) (R.costs row.new) }
 {
     for rule in chains {
-        let (from, to) = direction.ends(*rule);
+        let (from, to) = direction.ends(rule);
         if from == category && !settled[to] {
             row.offer(to, S::join(S::price(rule.weight), cost));
         }
@@ -102,12 +103,15 @@ pub fn settle<S: Scale, R: Row<S>>(chains: &[ChainRule], direction: Direction, r
     ensures beside { R.beside row.old row.new }
     ensures settled { Settled S.scale (R.enters row.old) direction chains.now (R.costs row.old) (R.costs row.new) }
 {
-    if closed::<S, _>(chains, direction, row) {
+    let Some(first) = first_lowering::<S, _>(chains, direction, row) else {
         return;
-    }
+    };
     let mut settled = [false; 64];
+    // as long as nothing was offered, the rules before the first that lowers a cost have nothing to offer
+    let mut rules = &chains[first..];
     while let Some(least) = pick::<S, _>(row, &settled) {
         settled[least.0] = true;
-        relax::<S, _>(chains, direction, row, &settled, least.0, least.1);
+        relax::<S, _>(rules, direction, row, &settled, least.0, least.1);
+        rules = chains;
     }
 }
