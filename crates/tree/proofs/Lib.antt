@@ -4,3 +4,4 @@ pub mod Marks
 pub mod Ranking
 pub mod Ground
 pub mod Trees
+pub mod Finishing

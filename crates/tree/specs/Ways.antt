@@ -1,5 +1,5 @@
 -- The ways to make a constituent at exactly its cost in a table: by a word, by a chain rule above a category of lower rank, or by a binary rule and a split.
-use Rattle.std.specs.Prelude.{◌≡◌, ℕ, ◌+◌, ◌-◌, ◌<◌, ◌≤◌, List, length, get_or, Some, None, Option, MatchOption, slice_index, slice_index_or}
+use Rattle.std.specs.Prelude.{◌≡◌, ℕ, ◌+◌, ◌-◌, ◌<◌, ◌≤◌, List, length, get_or, Some, None, Option, MatchOption, slice_index, slice_index_or, ◌⊎◌}
 use Rattle.derivation.specs.Scale.{Scale}
 use Rattle.derivation.specs.Grammar.{Grammar}
 use Rattle.derivation.specs.declared.rules.WordRule.{WordRule}
@@ -61,6 +61,10 @@ ByBinary s v rules b e a x k m = (k < length rules) × ((get_or rules k no_binar
 abbrev pub Finds : {X : Type 0} → (X → Type 0) → Option X → Type 0
 Finds {X} P r = MatchOption r ((x : X) → P x → ⊥) P
 
+-- the first number of which P holds, or none where P holds of none
+abbrev pub FindsFirst : (ℕ → Type 0) → Option ℕ → Type 0
+FindsFirst P r = MatchOption r ((k : ℕ) → P k → ⊥) (λ k. P k × ((j : ℕ) → j < k → P j → ⊥))
+
 -- the first pair of a rule and a split that gives the cost, the rules in order and then the splits; or no pair gives it
 abbrev pub FirstPair : {Cost : Type 0} → Scale Cost → Table Cost → List BinaryRule → ℕ → ℕ → ℕ → Cost → Option (ℕ × ℕ) → Type 0
 FirstPair s v rules b e a x r =
@@ -78,3 +82,19 @@ pub record Way {Cost : Type 0} (s : Scale Cost) (g : Grammar) (ws : List ℕ) (v
   pub cost : Cost
   pub held : v a b e ≡ Some cost
   pub gives : Gives s g ws v ranks below b e a cost step
+
+-- which of two steps is asked for first: rules in their order and the splits of a rule in theirs, word rules before binary ones, and chain rules last
+abbrev pub Earlier : Step → Step → Type 0
+Earlier (Word j) (Word k) = j < k
+Earlier (Word j) (Binary k m) = Unit {0}
+Earlier (Word j) (Chain k) = Unit {0}
+Earlier (Binary j n) (Word k) = ⊥
+Earlier (Binary j n) (Binary k m) = (j < k) ⊎ ((j ≡ k) × (n < m))
+Earlier (Binary j n) (Chain k) = Unit {0}
+Earlier (Chain j) (Word k) = ⊥
+Earlier (Chain j) (Binary k m) = ⊥
+Earlier (Chain j) (Chain k) = j < k
+
+-- no step before this one is a way
+abbrev pub FirstWay : {Cost : Type 0} → Scale Cost → Grammar → List ℕ → Table Cost → List (Option ℕ) → ℕ → ℕ → ℕ → ℕ → Step → Type 0
+FirstWay s g ws v ranks below b e a t = (u : Step) → Earlier u t → Way s g ws v ranks below b e a u → ⊥

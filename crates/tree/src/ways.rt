@@ -1,9 +1,9 @@
 // The first way to make a constituent at exactly its cost.
-ghost use Rattle.std.specs.Prelude.{◌≡◌, ◌<◌, ◌≤◌, Decides};
+ghost use Rattle.std.specs.Prelude.{IfSome, ◌≡◌, ◌<◌, ◌≤◌, Decides};
 ghost use Rattle.derivation.specs.Grammar.{grammar};
 ghost use Rattle.chart.specs.Meaning.{Lowest};
 ghost use Rattle.table.specs.Tables.{entries, holds};
-ghost use Rattle.tree.specs.Ways.{OfPart, OfParts, ByWord, ByChain, Finds, FirstPair, Way};
+ghost use Rattle.tree.specs.Ways.{OfPart, OfParts, ByWord, ByChain, Finds, FindsFirst, FirstPair, Way, FirstWay};
 
 use crate::ranks::Ranks;
 use crate::reader::{Reader, Span};
@@ -42,7 +42,7 @@ impl<S: Scale, C: Chart> Reader<'_, S, C> {
 
     // The first word rule that gives the cost.
     fn first_word(&self, word: u16, category: u8, cost: S::Cost) -> Option<usize>
-        ensures { Finds (ByWord S.scale self.now.rules.now.lexical.items word category cost) result }
+        ensures { FindsFirst (ByWord S.scale self.now.rules.now.lexical.items word category cost) result }
     {
         self.rules.lexical.iter().position(|rule| {
             rule.category == category && rule.word == word && same::<S>(S::price(rule.weight), cost)
@@ -108,7 +108,7 @@ impl<S: Scale, C: Chart> Reader<'_, S, C> {
         span: Span,
         cost: S::Cost,
     ) -> Option<usize>
-        ensures { Finds (ByChain S.scale (entries self.now.table.now) self.now.rules.now.chains.items ranks.now below span.begin span.end category cost) result }
+        ensures { FindsFirst (ByChain S.scale (entries self.now.table.now) self.now.rules.now.chains.items ranks.now below span.begin span.end category cost) result }
     {
         self.rules.chains.iter().position(|rule| {
             rule.category == category && self.steps_to(*rule, ranks, below, span, cost)
@@ -117,7 +117,8 @@ impl<S: Scale, C: Chart> Reader<'_, S, C> {
 
     // The way to a constituent that the chart holds: by its word or by a split if there is one, else by a chain rule to a lower rank.
     pub fn way(&self, ranks: &Ranks, below: u8, category: u8, span: Span) -> Option<Step>
-        ensures { Finds (Way S.scale (grammar self.now.rules.now) self.now.text.now (entries self.now.table.now) ranks.now below span.begin span.end category) result }
+        ensures found { Finds (Way S.scale (grammar self.now.rules.now) self.now.text.now (entries self.now.table.now) ranks.now below span.begin span.end category) result }
+        ensures first { IfSome result (FirstWay S.scale (grammar self.now.rules.now) self.now.text.now (entries self.now.table.now) ranks.now below span.begin span.end category) }
     {
         let cost = self.cost(category, span)?;
         if span.begin == span.end {

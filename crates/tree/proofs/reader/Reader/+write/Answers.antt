@@ -7,12 +7,12 @@ use Rattle.tree.proofs.Trees.{wrote_word, wrote_chain, wrote_binary, span_sum}
 use Rattle.tree.proofs.reader.Reader.+write.Goals as goal
 
 pub write_ranked-unreachable-requires-in_default-way : goal.write_ranked-unreachable-requires-in_default-way
-write_ranked-unreachable-requires-in_default-way g t c = let (step, way) = c.requires.ranked.ways _ _ (top c.requires.ranked c.from.ensures c.in-Some.is _ _ c.requires.room).0 in c.in_default-way.ensures step way
+write_ranked-unreachable-requires-in_default-way g t c = let (step, way) = c.requires.ranked.ways _ _ (top c.requires.ranked c.from.ensures c.in-Some.is _ _ c.requires.room).0 in c.in_default-way.ensures.found step way
 
 pub write_ranked-write-rights-requires : goal.write_ranked-write-rights-requires
 write_ranked-write-rights-requires g t c κs within =
     let (is, some, room) = top c.requires.ranked c.from.ensures c.in-Some.is _ _ c.requires.room in
-    let (inside, makes, of) = (rw c.in-Binary.is at c.in-Some-way.ensures).gives in
+    let (inside, makes, of) = (rw c.in-Binary.is at c.in-Some-way.ensures.found).gives in
     let read = get_or_read _ c.in-Binary.rule _ inside c.index-in-Binary.ensures no_binary in
     let low = of.first in
     let high = of.last in
@@ -23,20 +23,20 @@ write_ranked-write-rights-requires g t c κs within =
 pub write_ranked-returns-in-Word : goal.write_ranked-returns-in-Word
 write_ranked-returns-in-Word g t c =
     let (is, some, room) = top c.requires.ranked c.from.ensures c.in-Some.is _ _ c.requires.room in
-    let w = rw c.in-Word.is at c.in-Some-way.ensures in
+    let w = rw c.in-Word.is at c.in-Some-way.ensures.found in
     let p = placed c.args.self.now.table.now g.C.Chart.sound _ _ _ w.held in
     rw c.node.ensures (wrote_word c.args.ranks.now c.args.category c.args.span.begin c.args.span.end c.in-Some.rank c.in-Word.rule c.args.nodes.now w p.first (omega (arith, p.last, c.args.self.now.whole)) is some (omega arith))
 
 pub write_ranked-returns-in-Chain : goal.write_ranked-returns-in-Chain
 write_ranked-returns-in-Chain g t c =
     let (is, some, room) = top c.requires.ranked c.from.ensures c.in-Some.is _ _ c.requires.room in
-    let w = rw c.in-Chain.is at c.in-Some-way.ensures in
+    let w = rw c.in-Chain.is at c.in-Some-way.ensures.found in
     wrote_chain c.args.ranks.now c.args.category c.args.span.begin c.args.span.end c.in-Some.rank c.in-Chain.rule c.index.result.now.part c.write_ranked.result c.args.nodes.now _ c.write_ranked.new.nodes w is (rw c.node-in-Chain.ensures) (omega arith) (ap (λ r. r.part) (get_or_read _ c.in-Chain.rule _ w.gives.0 c.index.ensures no_chain)) c.write_ranked.ensures
 
 pub write_ranked-returns-in-Binary : goal.write_ranked-returns-in-Binary
 write_ranked-returns-in-Binary g t c =
     let (is, some, room) = top c.requires.ranked c.from.ensures c.in-Some.is _ _ c.requires.room in
-    let w = rw c.in-Binary.is at c.in-Some-way.ensures in
+    let w = rw c.in-Binary.is at c.in-Some-way.ensures.found in
     let r = c.index-in-Binary.result.now in
     let read = get_or_read _ c.in-Binary.rule r w.gives.0 c.index-in-Binary.ensures no_binary in
     let lefts = rw (c.left.ensures.begin, c.left.ensures.end) at c.write-lefts.ensures in

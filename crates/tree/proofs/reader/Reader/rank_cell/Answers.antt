@@ -10,7 +10,7 @@ pub returns-then-is_some-clause-ranked : goal.returns-then-is_some-clause-ranked
 returns-then-is_some-clause-ranked g c =
     let p = placed c.args.self.now.table.now g.C.Chart.sound _ _ _ (cost_of c.requires.grounded).1 in
     let kinds = c.args.self.now.kinds in
-    let (step, way) = given c.way.result c.if-is_some.ensures _ _ c.way.ensures in
+    let (step, way) = given c.way.result c.if-is_some.ensures _ _ c.way.ensures.found in
     rw c.from.ensures (ranked_one c.args.category c.args.self.now.rules.now.categories (omega (arith, p.kind)) (omega (arith, p.few)) step way)
 
 pub returns-then-is_some-clause-some : goal.returns-then-is_some-clause-some
